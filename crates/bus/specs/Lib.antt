@@ -1,0 +1,5 @@
+pub mod States
+pub mod Acts
+pub mod Breaches
+pub mod Bus
+pub mod Readers

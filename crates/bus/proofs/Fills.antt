@@ -117,6 +117,7 @@ moved-part u (act.Identify bs) = learns (u .part) bs
 moved-part u (act.Read w c f) = stays (u .part)
 moved-part u (act.Data w c b) = stays (u .part)
 moved-part u (act.Erase w) = stays (u .part)
+moved-part u (act.Load w s c b) = stays (u .part)
 moved-part u (act.Program w c f) = rw (confirmed-part u (blockOf w) f) (stays (u .part))
 
 more-blocks : (o q : Option Part) → Stays o q → blocksIn o ≤ blocksIn q

@@ -6,7 +6,7 @@ use lib.Dec.{eqb, ltb}
 use lib.ListN.{getD}
 use Rattle.std.specs.declared.option.Option.{Option}
 use Rattle.std.specs.declared.option.Option.the-variants.{None, Some}
-use Rattle.flash.specs.Addresses.{columnOf, rowOf, blockOf, inPage, nextColumn}
+use Rattle.flash.specs.Addresses.{columnOf, rowOf, blockOf, inPage}
 use Rattle.flash.specs.Opcodes.{opcodeOf}
 use Rattle.flash.specs.declared.address.Column.{Column}
 use Rattle.flash.specs.declared.address.Row.{Row}
@@ -144,23 +144,23 @@ address u (phase.Addressing s g) b = addressing u s (plus g b)
 address u (phase.Addressed s c w) b = act.OutOfPlace
 address u (phase.Loading w s n) b = act.OutOfPlace
 
--- a byte to program goes to the next column of the page
-abbrev pub loading : BusState → Row → Column → Column → Act
-loading u w s n = when (inPage n) (act.Prepare (phase.Loading w s (nextColumn n)) (u .register))
+-- a byte to program goes to the next column, if the page has it
+abbrev pub loading : Row → Column → Column → ℕ → Act
+loading w s n b = when (inPage n) (act.Load w s n b)
 
-abbrev pub dataIn : BusState → Phase → Act
-dataIn u phase.Quiet = act.OutOfPlace
-dataIn u phase.Status = act.OutOfPlace
-dataIn u phase.Output = act.OutOfPlace
-dataIn u phase.Identity = act.OutOfPlace
-dataIn u (phase.IdentityBytes g) = act.OutOfPlace
-dataIn u phase.ReadSetup = act.OutOfPlace
-dataIn u (phase.Addressing s g) = act.OutOfPlace
-dataIn u (phase.Addressed setup.Read c w) = act.OutOfPlace
-dataIn u (phase.Addressed setup.Erase c w) = act.OutOfPlace
-dataIn u (phase.Addressed setup.Program c w) = loading u w c c
-dataIn u (phase.Addressed setup.Copy c w) = act.OutOfPlace
-dataIn u (phase.Loading w s n) = loading u w s n
+abbrev pub dataIn : Phase → ℕ → Act
+dataIn phase.Quiet b = act.OutOfPlace
+dataIn phase.Status b = act.OutOfPlace
+dataIn phase.Output b = act.OutOfPlace
+dataIn phase.Identity b = act.OutOfPlace
+dataIn (phase.IdentityBytes g) b = act.OutOfPlace
+dataIn phase.ReadSetup b = act.OutOfPlace
+dataIn (phase.Addressing s g) b = act.OutOfPlace
+dataIn (phase.Addressed setup.Read c w) b = act.OutOfPlace
+dataIn (phase.Addressed setup.Erase c w) b = act.OutOfPlace
+dataIn (phase.Addressed setup.Program c w) b = loading w c c b
+dataIn (phase.Addressed setup.Copy c w) b = act.OutOfPlace
+dataIn (phase.Loading w s n) b = loading w s n b
 
 -- a byte from the chip
 abbrev pub identity : BusState → Given → Act
@@ -185,5 +185,5 @@ abbrev pub actOf : BusState → Cycle → Act
 actOf u c = elim (c .kind) [
     Command ↦ command u (opcodeOf (c .byte))
   | Address ↦ address u (u .phase) (c .byte)
-  | DataIn ↦ dataIn u (u .phase)
+  | DataIn ↦ dataIn (u .phase) (c .byte)
   | DataOut ↦ dataOut u (u .phase) (c .byte) ]

@@ -45,6 +45,7 @@ judged u k (act.Status b) = noBreach
 judged u k (act.Identify bs) = noBreach
 judged u k (act.Read w c f) = noBreach
 judged u k (act.Data w c b) = noBreach
+judged u k (act.Load w s c b) = noBreach
 judged u k (act.Erase w) = record { «while_busy» = false; «out_of_place» = false; «unfit_block» = not (fit k); «page_order» = false; «too_many_programs» = false }
 judged u k (act.Program w c f) = record {
     «while_busy» = false;

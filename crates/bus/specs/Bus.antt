@@ -72,6 +72,7 @@ moved u (act.Identify bs) = record { part = partAfter (u .part) bs; phase = phas
 moved u (act.Read w c f) = at u phase.Quiet (busy.Read w c f) (u .register) (u .chain)
 moved u (act.Data w c b) = at u phase.Output (u .busy) (register.Full w (nextColumn c) false) (u .chain)
 moved u (act.Erase w) = at u phase.Quiet (busy.Erase (blockOf w)) (u .register) (u .chain)
+moved u (act.Load w s c b) = at u (phase.Loading w s (nextColumn c)) (u .busy) (u .register) (u .chain)
 moved u (act.Program w c f) = confirmed u (blockOf w) f
 
 -- breaches are counted up to 65,535
@@ -97,6 +98,7 @@ concerns u (act.Identify bs) = None
 concerns u (act.Read w c f) = None
 concerns u (act.Data w c b) = cond (atMark c) (Some (blockOf w)) None
 concerns u (act.Erase w) = Some (blockOf w)
+concerns u (act.Load w s c b) = None
 concerns u (act.Program w c f) = Some (blockOf w)
 
 -- what becomes of that record
@@ -118,6 +120,7 @@ changed u (act.Identify bs) k = k
 changed u (act.Read w c f) k = k
 changed u (act.Data w c b) k = markRead (pageOf w) b k
 changed u (act.Erase w) k = stale k
+changed u (act.Load w s c b) k = k
 changed u (act.Program w c f) k = programmed (allowedIn (u .part)) (pageOf w) k
 
 -- a block outside the part has no record that could change

@@ -38,6 +38,8 @@ pub enum Act {
     /// A byte of the register came.
     Data { row: Row, column: Column, byte: u8 },
     Erase { row: Row },
+    /// A byte to program, for this column of a page that is given from `start` on.
+    Load { row: Row, start: Column, column: Column, byte: u8 },
     Program { row: Row, column: Column, confirm: Confirm },
 }
 
@@ -106,6 +108,13 @@ fn begin(phase: Phase) -> Act
     ensures { λ r. ⌜ r ≡ Act.Prepare phase Register.Empty ⌝ }
 {
     Act::Prepare { phase, register: Register::Empty }
+}
+
+// One more byte to program.
+fn load(row: Row, start: Column, column: Column, byte: u8) -> Act
+    ensures { λ r. ⌜ r ≡ loading row start column byte ⌝ }
+{
+    if column.is_in_page() { Act::Load { row, start, column, byte } } else { Act::OutOfPlace }
 }
 
 impl Act {
@@ -201,13 +210,6 @@ impl BusState {
         self.prepare(Phase::Addressed { setup, column, row }).when(self.can_name(row))
     }
 
-    // One more byte to program.
-    fn load(&self, row: Row, start: Column, next: Column) -> Act
-        ensures { λ r. ⌜ r ≡ loading (now (self .entry)) row start next ⌝ }
-    {
-        self.prepare(Phase::Loading { row, start, next: next.next() }).when(next.is_in_page())
-    }
-
     // The identity bytes so far.
     fn identify(&self, given: Given) -> Act
         ensures { λ r. ⌜ r ≡ identity (now (self .entry)) given ⌝ }
@@ -229,8 +231,8 @@ impl BusState {
             (Phase::Identity, Kind::Address) => self.prepare(Phase::IdentityBytes { given: Given::NOTHING }).when(byte == 0),
             (Phase::ReadSetup, Kind::Address) => begin(Phase::Addressing { setup: Setup::Read, given: Given::NOTHING.plus(byte) }),
             (Phase::Addressing { setup, given }, Kind::Address) => self.address(setup, given.plus(byte)),
-            (Phase::Addressed { setup: Setup::Program, column, row }, Kind::DataIn) => self.load(row, column, column),
-            (Phase::Loading { row, start, next }, Kind::DataIn) => self.load(row, start, next),
+            (Phase::Addressed { setup: Setup::Program, column, row }, Kind::DataIn) => load(row, column, column, byte),
+            (Phase::Loading { row, start, next }, Kind::DataIn) => load(row, start, next, byte),
             (Phase::Status, Kind::DataOut) => Act::Status { byte },
             (Phase::IdentityBytes { given }, Kind::DataOut) => self.identify(given.plus(byte)),
             (Phase::ReadSetup | Phase::Output, Kind::DataOut) => self.register.output(byte),

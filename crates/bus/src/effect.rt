@@ -111,6 +111,7 @@ impl BusState {
                 self.phase = Phase::Quiet;
                 self.busy = Busy::Erase { block: row.block() };
             }
+            Act::Load { row, start, column, .. } => self.phase = Phase::Loading { row, start, next: column.next() },
             Act::Program { row, confirm, .. } => self.begin_program(row.block(), confirm),
         }
     }

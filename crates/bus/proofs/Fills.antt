@@ -12,25 +12,15 @@ use Rattle.std.proofs.shelf.Lists.{getD-append-left, getD-append-right, getD-re
 use Rattle.std.proofs.shelf.Tests.{cases-lt}
 use Rattle.std.specs.declared.option.Option.{Option}
 use Rattle.std.specs.declared.option.Option.the-variants.{None, Some}
-use Rattle.flash.specs.Addresses.{blockOf}
 use Rattle.flash.specs.Records.{firstRecord}
-use Rattle.flash.specs.Statuses.{ready}
-use Rattle.flash.specs.declared.part.Part.{Part}
 use Rattle.flash.specs.declared.cycle.Cycle.{Cycle}
 use Rattle.flash.specs.declared.record.BlockRecord.{BlockRecord}
+use Rattle.bus.proofs.Moves as moves
 use Rattle.bus.specs.Acts.{actOf}
 use Rattle.bus.specs.Breaches.{howMany, judged}
-use Rattle.bus.specs.Bus.{Reader, step, filled, changedAt, recordIn, concerns, changed, counted, moved, ended, confirmed, partAfter}
+use Rattle.bus.specs.Bus.{Reader, step, filled, changedAt, recordIn, concerns, changed, counted, moved}
 use Rattle.bus.specs.States.{blocksIn}
 use Rattle.bus.specs.declared.act.Act.{Act}
-use Rattle.bus.specs.declared.act.Act.the-variants as act
-use Rattle.bus.specs.declared.act.Confirm.{Confirm}
-use Rattle.bus.specs.declared.act.Confirm.the-variants as confirm
-use Rattle.bus.specs.declared.state.Busy.{Busy}
-use Rattle.bus.specs.declared.state.Busy.the-variants as busy
-use Rattle.bus.specs.declared.state.BusState.{BusState}
-
-
 
 
 padding : (n i : ℕ) → getD (replicate n firstRecord) i firstRecord ≡ firstRecord
@@ -76,54 +66,7 @@ filled-step r c h =
     ∙ ap (λ ks. record { bus = counted (moved (r .bus) a) (howMany (judged (r .bus) (recordIn (concerns (r .bus) a) (r .blocks)) a)); blocks = ks })
         (filled-changed (blocksIn (r .bus .part)) (concerns (r .bus) a) (changed (r .bus) a) (r .blocks) h)
 
--- the part has no fewer blocks after a step than before: once known it stays
-ended-part : (u : BusState) (b : Busy) → ended u b .part ≡ u .part
-ended-part u busy.Nothing = refl
-ended-part u busy.Reset = refl
-ended-part u (busy.Read w c f) = refl
-ended-part u busy.CachePage = refl
-ended-part u (busy.Program b) = refl
-ended-part u (busy.Erase b) = refl
-
-status-part : (u : BusState) (t : Bool) → cond t (ended u (u .busy)) u .part ≡ u .part
-status-part u true = ended-part u (u .busy)
-status-part u false = refl
-
-confirmed-part : (u : BusState) (b : ℕ) (f : Confirm) → confirmed u b f .part ≡ u .part
-confirmed-part u b confirm.Program = refl
-confirmed-part u b confirm.Cache = refl
-confirmed-part u b confirm.Copy = refl
-
--- a part stays, unless it was unknown and five bytes name it
-abbrev pub Stays : Option Part → Option Part → Type 0
-Stays None q = Unit {0}
-Stays (Some p) q = q ≡ Some p
-
-stays : (o : Option Part) → Stays o o
-stays None = tt
-stays (Some p) = refl
-
-learns : (o : Option Part) (bs : List ℕ) → Stays o (partAfter o bs)
-learns None bs = tt
-learns (Some p) bs = refl
-
-pub moved-part : (u : BusState) (a : Act) → Stays (u .part) (moved u a .part)
-moved-part u act.WhileBusy = stays (u .part)
-moved-part u act.OutOfPlace = stays (u .part)
-moved-part u act.Reset = stays (u .part)
-moved-part u (act.Prepare p g) = stays (u .part)
-moved-part u (act.Status b) = rw (status-part u (ready b)) (stays (u .part))
-moved-part u (act.Identify bs) = learns (u .part) bs
-moved-part u (act.Read w c f) = stays (u .part)
-moved-part u (act.Data w c b) = stays (u .part)
-moved-part u (act.Erase w) = stays (u .part)
-moved-part u (act.Load w s c b) = stays (u .part)
-moved-part u (act.Program w c f) = rw (confirmed-part u (blockOf w) f) (stays (u .part))
-
-more-blocks : (o q : Option Part) → Stays o q → blocksIn o ≤ blocksIn q
-more-blocks None q h = omega arith
-more-blocks (Some p) q h = rw h (omega arith)
-
+-- the part has no fewer blocks after a step than before
 pub blocks-rise : (r : Reader) (c : Cycle) → blocksIn (r .bus .part) ≤ blocksIn (step r c .bus .part)
 unfolding step
-blocks-rise r c = more-blocks (r .bus .part) _ (moved-part (r .bus) (actOf (r .bus) c))
+blocks-rise r c = moves.blocks-rise (r .bus) (actOf (r .bus) c)

@@ -1,1 +1,8 @@
-pub mod Fills
+mod Acts
+mod Blocks
+mod Counts
+mod Fills
+mod Moves
+mod Sounds
+mod Steps
+mod Turns

@@ -1,11 +1,11 @@
 // The bus reader at run time, over block records that its owner lends.
 ghost use Prim.Native.Nat.{_≤_};
 ghost use lib.ListN.{length, getD, replicate};
-ghost use mathlib.Core.List.{foldl};
 ghost use mathlib.Core.Path.{_≡_};
 ghost use Rattle.flash.specs.Records.{firstRecord};
 ghost use Rattle.bus.specs.States.{firstBus, blocksIn};
-ghost use Rattle.bus.specs.Bus.{step, recordIn, changedAt, changed};
+ghost use Rattle.bus.specs.Bus.{step, steps, recordIn, changedAt, changed};
+ghost use Rattle.bus.specs.Laws.{Lawful, Ever-sound};
 ghost use Rattle.bus.specs.Readers.{held, meant, told};
 use flash::cycle::Cycle;
 use flash::record::BlockRecord;
@@ -32,7 +32,8 @@ pub struct BusReader<'a> {
 impl<'a> BusReader<'a> {
     /// A reader in its first state; the records lent are set to first ones.
     pub fn new(blocks: &'a mut [BlockRecord]) -> BusReader<'a>
-        ensures { λ r. ⌜ held r ≡ record { bus = firstBus; blocks = replicate (length (now (blocks .entry))) firstRecord } ⌝ }
+        ensures first { λ r. ⌜ held r ≡ record { bus = firstBus; blocks = replicate (length (now (blocks .entry))) firstRecord } ⌝ }
+        ensures sound { λ r. ⌜ Ever-sound (held r) ⌝ }
     {
         forget_all(blocks);
         BusReader { bus: BusState::FIRST, blocks }
@@ -71,6 +72,7 @@ impl BusReader<'_> {
     pub fn read(&mut self, cycle: Cycle) -> Told
         ensures holds { λ _. ⌜ held (now (self .exit)) ≡ step (held (now (self .entry))) cycle ⌝ }
         ensures means { λ _. ⌜ (blocksIn (now (self .exit) .bus .part) ≤ length (now (now (self .entry) .blocks)) → meant (now (self .exit)) ≡ step (meant (now (self .entry))) cycle) ⌝ }
+        ensures lawful { λ _. ⌜ Lawful (held (now (self .entry))) (held (now (self .exit))) cycle ⌝ }
         ensures tells { λ r. ⌜ r ≡ told (held (now (self .entry))) cycle ⌝ }
     {
         let bus = self.bus;
@@ -81,6 +83,15 @@ impl BusReader<'_> {
         self.bus.perform(act);
         self.bus.count(breaches);
         Told { act, breaches }
+    }
+
+    /// A list of cycles, one after the other.
+    pub fn read_all(&mut self, cycles: &[Cycle])
+        ensures { λ _. ⌜ held (now (self .exit)) ≡ steps (held (now (self .entry))) (now (cycles .entry)) ⌝ }
+    {
+        for cycle in cycles {
+            self.read(*cycle);
+        }
     }
 }
 

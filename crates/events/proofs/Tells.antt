@@ -30,7 +30,7 @@ module _ (t : Telling) (c : Cycle) where
 
   -- the rules broken are told, then what happened
   pub told-then : (x y z : List Thing) (d : Told) (hand : List ℕ) → d ≡ told (t .reader) c → hand ≡ t .hand
-      → y ≡ x ++ map (broke (later (t .cycles))) (named (d .breaches)) → z ≡ y ++ happened (d .act) hand → z ≡ x ++ (tells t c ++ [])
+      → y ≡ x ++ map (broke (later (t .cycles))) (named (d .breaches)) → z ≡ y ++ happened (later (t .cycles)) (d .act) hand → z ≡ x ++ (tells t c ++ [])
   unfolding tells
   told-then x y z d hand p q h k = k ∙ rw (h, p, q) (simp (append-assoc, append-nil))
 

@@ -21,33 +21,33 @@ pub record Place : Type 0 where
   pub column : ℕ
 
 -- one thing told: a rule broken by the n-th cycle; FFh; a status byte; five identity bytes; a read,
--- or a copy read; a byte of the register; an erase of a block; a program with the bytes given
+-- or a copy read; a byte of the register, given by the n-th cycle; an erase of a block; a program with the bytes given
 pub data Thing : Type 0 where
   broke : ℕ → Breach → Thing
   reset : Thing
   status : ℕ → Thing
   identity : List ℕ → Thing
   read : Bool → Place → Thing
-  byte : ℕ → Thing
+  byte : ℕ → ℕ → Thing
   erase : ℕ → Thing
   program : Confirm → Place → List ℕ → Thing
 
 abbrev pub place : Row → Column → Place
 place w c = record { block = blockOf w; page = pageOf w; column = c .number }
 
--- what an act does, with these bytes in hand
-abbrev pub happened : Act → List ℕ → List Thing
-happened act.WhileBusy hand = []
-happened act.OutOfPlace hand = []
-happened act.Reset hand = reset ∷ []
-happened (act.Prepare p g) hand = []
-happened (act.Status b) hand = status b ∷ []
-happened (act.Identify bs) hand = identity bs ∷ []
-happened (act.Read w c copy) hand = read copy (place w c) ∷ []
-happened (act.Data w c b) hand = byte b ∷ []
-happened (act.Erase w) hand = erase (blockOf w) ∷ []
-happened (act.Load w s c b) hand = []
-happened (act.Program w c f) hand = program f (place w c) hand ∷ []
+-- what an act does at the n-th cycle, with these bytes in hand
+abbrev pub happened : ℕ → Act → List ℕ → List Thing
+happened n act.WhileBusy hand = []
+happened n act.OutOfPlace hand = []
+happened n act.Reset hand = reset ∷ []
+happened n (act.Prepare p g) hand = []
+happened n (act.Status b) hand = status b ∷ []
+happened n (act.Identify bs) hand = identity bs ∷ []
+happened n (act.Read w c copy) hand = read copy (place w c) ∷ []
+happened n (act.Data w c b) hand = byte n b ∷ []
+happened n (act.Erase w) hand = erase (blockOf w) ∷ []
+happened n (act.Load w s c b) hand = []
+happened n (act.Program w c f) hand = program f (place w c) hand ∷ []
 
 -- the bytes in hand: those given of a program that is not yet confirmed
 abbrev pub handAfter : Act → List ℕ → List ℕ
@@ -76,7 +76,7 @@ abbrev pub later : ℕ → ℕ
 later n = min (n + 1) (2 ^ 64 - 1)
 
 abbrev pub toldAt : ℕ → Reader → Act → List ℕ → List Thing
-toldAt n r a hand = map (broke n) (named (breachesOf r a)) ++ happened a hand
+toldAt n r a hand = map (broke n) (named (breachesOf r a)) ++ happened n a hand
 
 -- what one cycle tells: the rules that it breaks, then what it does
 unfoldable pub tells : Telling → Cycle → List Thing

@@ -21,7 +21,7 @@ thing event.Reset = reset
 thing (event.Status b) = status b
 thing (event.Identity bs) = identity bs
 thing (event.Read w c copy) = read copy (place w c)
-thing (event.Data b) = byte b
+thing (event.Data n b) = byte n b
 thing (event.Erase w) = erase (blockOf w)
 thing (event.Program w c f bs) = program f (place w c) (vec-items bs)
 

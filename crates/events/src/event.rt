@@ -12,8 +12,8 @@ pub enum Event {
     Status { byte: u8 },
     Identity { bytes: [u8; 5] },
     Read { row: Row, column: Column, copy: bool },
-    /// A byte of the register came.
-    Data { byte: u8 },
+    /// A byte of the register came with the n-th cycle.
+    Data { cycle: u64, byte: u8 },
     Erase { row: Row },
     /// A program with the bytes that were given; a copy has none.
     Program { row: Row, column: Column, confirm: Confirm, bytes: Vec<u8> },

@@ -56,9 +56,9 @@ fn tell_breaches(events: &mut Vec<Event>, cycle: u64, breaches: Breaches)
 }
 
 // What an act does. A program or a reset takes the bytes in hand; a byte to program is added to them.
-fn tell_act(act: Act, hand: &mut Vec<u8>, heap: Global) -> Option<Event>
+fn tell_act(cycle: u64, act: Act, hand: &mut Vec<u8>, heap: Global) -> Option<Event>
     requires { ⌜ vec-len (now hand) < vec-cap (now hand) ⌝ }
-    ensures told { λ r. ⌜ listed r ≡ happened act (vec-items (now (hand .entry))) ⌝ }
+    ensures told { λ r. ⌜ listed r ≡ happened cycle act (vec-items (now (hand .entry))) ⌝ }
     ensures hand { λ _. ⌜ vec-items (now (hand .exit)) ≡ handAfter act (vec-items (now (hand .entry))) ⌝ }
 {
     match act {
@@ -70,7 +70,7 @@ fn tell_act(act: Act, hand: &mut Vec<u8>, heap: Global) -> Option<Event>
         Act::Status { byte } => Some(Event::Status { byte }),
         Act::Identify { bytes } => Some(Event::Identity { bytes }),
         Act::Read { row, column, copy } => Some(Event::Read { row, column, copy }),
-        Act::Data { byte, .. } => Some(Event::Data { byte }),
+        Act::Data { byte, .. } => Some(Event::Data { cycle, byte }),
         Act::Erase { row } => Some(Event::Erase { row }),
         Act::Load { byte, .. } => {
             hand.push_reserved(byte);
@@ -118,7 +118,7 @@ impl Teller<'_> {
         let told = self.reader.read(cycle);
         self.cycles = self.cycles.saturating_add(1);
         tell_breaches(events, self.cycles, told.breaches);
-        let event = tell_act(told.act, &mut self.hand, self.heap);
+        let event = tell_act(self.cycles, told.act, &mut self.hand, self.heap);
         tell_event(events, event);
         Ok(())
     }

@@ -2,7 +2,7 @@ use mathlib.Core.Path.{_∙_, ap}
 use mathlib.Core.List.{List, _++_, map}
 use Rattle.std.specs.Of.Vec.{vec-items}
 use Rattle.bus.specs.Breaches.{named}
-use Rattle.events.specs.Events.{broke, handAfter, Thing}
+use Rattle.events.specs.Events.{broke, happened, handAfter, Thing}
 use Rattle.events.specs.Tellers.{thing, stands}
 use Rattle.events.proofs.Tells.{followed, told-then}
 use Rattle.events.proofs.teller.Teller.tell_one.Needs as need
@@ -22,4 +22,4 @@ returns c =
         (c .tell-breaches .ensures .told
           ∙ (ap (λ xs. map thing xs ++ map (broke (c .saturating-add-self .result)) (named (c .read-told .result .breaches))) (c .reserve .ensures .items)
           ∙ ap (λ n. before ++ map (broke n) (named (c .read-told .result .breaches))) (c .saturating-add-self .ensures)))
-        (c .tell-event .ensures ∙ ap (λ l. between ++ l) (c .tell-act-event .ensures .told)) }
+        (c .tell-event .ensures ∙ ap (λ l. between ++ l) (c .tell-act-event .ensures .told ∙ ap (λ n. happened n (c .read-told .result .act) (vec-items (c .reserve-2 .last .self))) (c .saturating-add-self .ensures))) }

@@ -1,0 +1,50 @@
+// judge: reads a log of bus cycles and reports what was done to the chip and which rules were broken.
+// With names of logs as arguments it reads those, one after the other, each with a reader of its own;
+// `-`, or no argument, is standard input.
+mod judging;
+mod report;
+
+use events::teller::Teller;
+use flash::geometry::MOST_BLOCKS;
+use flash::record::BlockRecord;
+use judging::Ending;
+use judging::Judging;
+use std::env;
+use std::fs::File;
+use std::io;
+use std::io::BufWriter;
+use std::io::Read;
+
+fn judge<R: Read>(rt: &LibcRuntime, input: &mut R) -> io::Result<()> {
+    let mut blocks = [BlockRecord::FIRST; MOST_BLOCKS];
+    let teller = Teller::new(rt.alloc(), &mut blocks);
+    let mut judging = Judging::new(rt.alloc(), teller, BufWriter::new(rt.stdout()));
+    if let Ending::NotACycle { line } = judging.run(input)? {
+        eprintln!(rt, "line {line}: not a cycle")?;
+        return Err(io::Error::other("not a cycle"));
+    }
+    Ok(())
+}
+
+fn judge_named(rt: &LibcRuntime, name: &String) -> io::Result<()> {
+    println!(rt, "# {name}")?;
+    if name.as_str() == "-" {
+        return judge(rt, &mut rt.stdin());
+    }
+    match File::open(rt, name.as_str()) {
+        Ok(mut file) => judge(rt, &mut file),
+        Err(error) => {
+            eprintln!(rt, "{name}: {error}")?;
+            Err(error)
+        }
+    }
+}
+
+fn main(rt: LibcRuntime) -> io::Result<()> {
+    let mut named = false;
+    for name in env::args(&rt)?.skip(1) {
+        named = true;
+        judge_named(&rt, &name)?;
+    }
+    if named { Ok(()) } else { judge(&rt, &mut rt.stdin()) }
+}

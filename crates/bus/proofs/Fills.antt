@@ -22,7 +22,6 @@ use Rattle.bus.specs.Bus.{Reader, step, filled, changedAt, recordIn, concerns,
 use Rattle.bus.specs.States.{blocksIn}
 use Rattle.bus.specs.declared.act.Act.{Act}
 
-
 padding : (n i : ℕ) → getD (replicate n firstRecord) i firstRecord ≡ firstRecord
 padding n i = ⊎-elim (λ h. getD-replicate n i firstRecord firstRecord h) (λ h. getD-past (replicate n firstRecord) i firstRecord (rw length-replicate h)) (cases-lt i n)
 
@@ -30,7 +29,7 @@ filled-getD : (ks : List BlockRecord) (b : ℕ) → getD (filled ks) b firstReco
 filled-getD ks b =
     ⊎-elim (λ h. getD-append-left ks (replicate (2048 - length ks) firstRecord) firstRecord b h)
     (λ h. getD-append-right ks (replicate (2048 - length ks) firstRecord) (length ks) b firstRecord refl h
-        ∙ (padding (2048 - length ks) (b - length ks) ∙ sym (getD-past ks b firstRecord h)))
+    ∙ (padding (2048 - length ks) (b - length ks) ∙ sym (getD-past ks b firstRecord h)))
     (cases-lt b (length ks))
 
 filled-set : (ks : List BlockRecord) (b : ℕ) (k : BlockRecord) → b < length ks → set (filled ks) b k ≡ filled (set ks b k)
@@ -62,9 +61,9 @@ unfolding step
 filled-step r c h =
     let a : Act = actOf (r .bus) c in
     ap (λ k. record { bus = counted (moved (r .bus) a) (howMany (judged (r .bus) k a)); blocks = changedAt (blocksIn (r .bus .part)) (concerns (r .bus) a) (changed (r .bus) a) (filled (r .blocks)) })
-        (filled-record (concerns (r .bus) a) (r .blocks))
+    (filled-record (concerns (r .bus) a) (r .blocks))
     ∙ ap (λ ks. record { bus = counted (moved (r .bus) a) (howMany (judged (r .bus) (recordIn (concerns (r .bus) a) (r .blocks)) a)); blocks = ks })
-        (filled-changed (blocksIn (r .bus .part)) (concerns (r .bus) a) (changed (r .bus) a) (r .blocks) h)
+    (filled-changed (blocksIn (r .bus .part)) (concerns (r .bus) a) (changed (r .bus) a) (r .blocks) h)
 
 -- the part has no fewer blocks after a step than before
 pub blocks-rise : (r : Reader) (c : Cycle) → blocksIn (r .bus .part) ≤ blocksIn (step r c .bus .part)

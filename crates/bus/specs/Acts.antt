@@ -183,7 +183,8 @@ dataOut u (phase.Loading w s n) b = act.OutOfPlace
 
 abbrev pub actOf : BusState → Cycle → Act
 actOf u c = elim (c .kind) [
-    Command ↦ command u (opcodeOf (c .byte))
+  | Command ↦ command u (opcodeOf (c .byte))
   | Address ↦ address u (u .phase) (c .byte)
   | DataIn ↦ dataIn (u .phase) (c .byte)
-  | DataOut ↦ dataOut u (u .phase) (c .byte) ]
+  | DataOut ↦ dataOut u (u .phase) (c .byte)
+]

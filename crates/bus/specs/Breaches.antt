@@ -48,8 +48,9 @@ judged u k (act.Data w c b) = noBreach
 judged u k (act.Load w s c b) = noBreach
 judged u k (act.Erase w) = record { «while_busy» = false; «out_of_place» = false; «unfit_block» = not (fit k); «page_order» = false; «too_many_programs» = false }
 judged u k (act.Program w c f) = record {
-    «while_busy» = false;
-    «out_of_place» = false;
-    «unfit_block» = not (fit k);
-    «page_order» = outOfOrder (k .pages) (not (closed (u .chain))) (pageOf w);
-    «too_many_programs» = programmedOut (allowedIn (u .part)) (k .pages) (pageOf w) }
+  «while_busy» = false;
+  «out_of_place» = false;
+  «unfit_block» = not (fit k);
+  «page_order» = outOfOrder (k .pages) (not (closed (u .chain))) (pageOf w);
+  «too_many_programs» = programmedOut (allowedIn (u .part)) (k .pages) (pageOf w);
+}

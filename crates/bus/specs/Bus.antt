@@ -137,8 +137,9 @@ breachesOf r a = judged (r .bus) (recordIn (concerns (r .bus) a) (r .blocks)) a
 
 abbrev pub done : Reader → Act → Reader
 done r a = record {
-    bus = counted (moved (r .bus) a) (howMany (breachesOf r a));
-    blocks = changedAt (blocksIn (r .bus .part)) (concerns (r .bus) a) (changed (r .bus) a) (r .blocks) }
+  bus = counted (moved (r .bus) a) (howMany (breachesOf r a));
+  blocks = changedAt (blocksIn (r .bus .part)) (concerns (r .bus) a) (changed (r .bus) a) (r .blocks);
+}
 
 unfoldable pub step : Reader → Cycle → Reader
 step r c = done r (actOf (r .bus) c)

@@ -97,10 +97,11 @@ statusOrData (phase.Loading w s n) = false
 
 abbrev pub mayChange : Phase → Cycle → Bool
 mayChange p c = elim (c .kind) [
-    Command ↦ eqb (c .byte) 0xD0 || (eqb (c .byte) 0x10 || (eqb (c .byte) 0x15 || eqb (c .byte) 0xFF))
+  | Command ↦ eqb (c .byte) 0xD0 || (eqb (c .byte) 0x10 || (eqb (c .byte) 0x15 || eqb (c .byte) 0xFF))
   | Address ↦ false
   | DataIn ↦ false
-  | DataOut ↦ statusOrData p ]
+  | DataOut ↦ statusOrData p
+]
 
 -- all records are as they were, or the cycle is such a one and all but one block's are
 pub record One-block (r s : Reader) (b : ℕ) : Type 0 where

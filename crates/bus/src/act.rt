@@ -3,16 +3,16 @@ ghost use mathlib.Core.Bool.{true};
 ghost use mathlib.Core.Path.{_≡_};
 ghost use Rattle.bus.specs.Acts.{when, begins, readConfirmed, eraseConfirmed, programConfirmed, cacheConfirmed, commanded, command, nameable, addressing, loading, identity, output, actOf};
 ghost use Rattle.bus.specs.States.{idle, cyclesIn, copyUp};
-use flash::address::Column;
-use flash::address::Row;
-use flash::cycle::Cycle;
-use flash::cycle::Kind;
-use flash::opcode::Opcode;
 use crate::state::BusState;
 use crate::state::Given;
 use crate::state::Phase;
 use crate::state::Register;
 use crate::state::Setup;
+use flash::address::Column;
+use flash::address::Row;
+use flash::cycle::Cycle;
+use flash::cycle::Kind;
+use flash::opcode::Opcode;
 
 /// How a program is confirmed: 10h, 15h, or the 10h of a copy.
 #[derive(Clone, Copy)]
@@ -30,17 +30,43 @@ pub enum Act {
     OutOfPlace,
     Reset,
     /// The phase moves on, and the register is kept or emptied; nothing else changes.
-    Prepare { phase: Phase, register: Register },
-    Status { byte: u8 },
+    Prepare {
+        phase: Phase,
+        register: Register,
+    },
+    Status {
+        byte: u8,
+    },
     /// The last of five identity bytes came.
-    Identify { bytes: [u8; 5] },
-    Read { row: Row, column: Column, copy: bool },
+    Identify {
+        bytes: [u8; 5],
+    },
+    Read {
+        row: Row,
+        column: Column,
+        copy: bool,
+    },
     /// A byte of the register came.
-    Data { row: Row, column: Column, byte: u8 },
-    Erase { row: Row },
+    Data {
+        row: Row,
+        column: Column,
+        byte: u8,
+    },
+    Erase {
+        row: Row,
+    },
     /// A byte to program, for this column of a page that is given from `start` on.
-    Load { row: Row, start: Column, column: Column, byte: u8 },
-    Program { row: Row, column: Column, confirm: Confirm },
+    Load {
+        row: Row,
+        start: Column,
+        column: Column,
+        byte: u8,
+    },
+    Program {
+        row: Row,
+        column: Column,
+        confirm: Confirm,
+    },
 }
 
 impl Register {
@@ -58,7 +84,11 @@ impl Register {
         ensures { λ r. ⌜ r ≡ output self byte ⌝ }
     {
         match self {
-            Register::Full { row, column, .. } if column.is_in_page() => Act::Data { row, column, byte },
+            Register::Full { row, column, .. } if column.is_in_page() => Act::Data {
+                row,
+                column,
+                byte,
+            },
             _ => Act::OutOfPlace,
         }
     }
@@ -69,7 +99,11 @@ impl Phase {
         ensures { λ r. ⌜ r ≡ readConfirmed copy self ⌝ }
     {
         match self {
-            Phase::Addressed { setup: Setup::Read, column, row } => Act::Read { row, column, copy },
+            Phase::Addressed {
+                setup: Setup::Read,
+                column,
+                row,
+            } => Act::Read { row, column, copy },
             _ => Act::OutOfPlace,
         }
     }
@@ -78,7 +112,11 @@ impl Phase {
         ensures { λ r. ⌜ r ≡ eraseConfirmed self ⌝ }
     {
         match self {
-            Phase::Addressed { setup: Setup::Erase, row, .. } => Act::Erase { row },
+            Phase::Addressed {
+                setup: Setup::Erase,
+                row,
+                ..
+            } => Act::Erase { row },
             _ => Act::OutOfPlace,
         }
     }
@@ -87,8 +125,20 @@ impl Phase {
         ensures { λ r. ⌜ r ≡ programConfirmed self ⌝ }
     {
         match self {
-            Phase::Addressed { setup: Setup::Copy, column, row } => Act::Program { row, column, confirm: Confirm::Copy },
-            Phase::Loading { row, start, .. } => Act::Program { row, column: start, confirm: Confirm::Program },
+            Phase::Addressed {
+                setup: Setup::Copy,
+                column,
+                row,
+            } => Act::Program {
+                row,
+                column,
+                confirm: Confirm::Copy,
+            },
+            Phase::Loading { row, start, .. } => Act::Program {
+                row,
+                column: start,
+                confirm: Confirm::Program,
+            },
             _ => Act::OutOfPlace,
         }
     }
@@ -97,7 +147,11 @@ impl Phase {
         ensures { λ r. ⌜ r ≡ cacheConfirmed self ⌝ }
     {
         match self {
-            Phase::Loading { row, start, .. } => Act::Program { row, column: start, confirm: Confirm::Cache },
+            Phase::Loading { row, start, .. } => Act::Program {
+                row,
+                column: start,
+                confirm: Confirm::Cache,
+            },
             _ => Act::OutOfPlace,
         }
     }
@@ -107,14 +161,26 @@ impl Phase {
 fn begin(phase: Phase) -> Act
     ensures { λ r. ⌜ r ≡ Act.Prepare phase Register.Empty ⌝ }
 {
-    Act::Prepare { phase, register: Register::Empty }
+    Act::Prepare {
+        phase,
+        register: Register::Empty,
+    }
 }
 
 // One more byte to program.
 fn load(row: Row, start: Column, column: Column, byte: u8) -> Act
     ensures { λ r. ⌜ r ≡ loading row start column byte ⌝ }
 {
-    if column.is_in_page() { Act::Load { row, start, column, byte } } else { Act::OutOfPlace }
+    if column.is_in_page() {
+        Act::Load {
+            row,
+            start,
+            column,
+            byte,
+        }
+    } else {
+        Act::OutOfPlace
+    }
 }
 
 impl Act {
@@ -137,7 +203,10 @@ impl BusState {
     fn prepare(&self, phase: Phase) -> Act
         ensures { λ r. ⌜ r ≡ Act.Prepare phase (now (self .entry) .register) ⌝ }
     {
-        Act::Prepare { phase, register: self.register }
+        Act::Prepare {
+            phase,
+            register: self.register,
+        }
     }
 
     // A command to a chip that is not busy.
@@ -148,17 +217,28 @@ impl BusState {
         match opcode {
             Opcode::Reset => Act::Reset,
             Opcode::ReadStatus => self.prepare(Phase::Status).when(self.phase.is_quiet()),
-            Opcode::ReadId => begin(Phase::Identity).when(self.phase.is_quiet() && self.chain.is_none()),
+            Opcode::ReadId => begin(Phase::Identity).when(
+                self.phase.is_quiet() && self.chain.is_none(),
+            ),
             Opcode::Read => self.prepare(Phase::ReadSetup).when(self.can_begin()),
             Opcode::ReadConfirm => self.phase.confirm_read(false).when(self.chain.is_none()),
             Opcode::CopyReadConfirm => self.phase.confirm_read(true).when(self.chain.is_none()),
-            Opcode::Erase => begin(Phase::Addressing { setup: Setup::Erase, given: Given::NO_COLUMN }).when(self.can_begin()),
+            Opcode::Erase => begin(Phase::Addressing {
+                setup: Setup::Erase,
+                given: Given::NO_COLUMN,
+            }).when(self.can_begin()),
             Opcode::EraseConfirm => self.phase.confirm_erase().when(self.chain.is_none()),
             Opcode::Program => {
-                begin(Phase::Addressing { setup: Setup::Program, given: Given::NOTHING }).when(self.phase.is_quiet() && self.part.is_some())
+                begin(Phase::Addressing {
+                    setup: Setup::Program,
+                    given: Given::NOTHING,
+                }).when(self.phase.is_quiet() && self.part.is_some())
             }
             Opcode::CopyProgram => {
-                begin(Phase::Addressing { setup: Setup::Copy, given: Given::NOTHING }).when(self.can_begin() && self.register.copy_up())
+                begin(Phase::Addressing {
+                    setup: Setup::Copy,
+                    given: Given::NOTHING,
+                }).when(self.can_begin() && self.register.copy_up())
             }
             Opcode::ProgramConfirm => self.phase.confirm_program(),
             Opcode::CacheConfirm => self.phase.confirm_cache(),
@@ -207,7 +287,8 @@ impl BusState {
         let [low, high, row_low, row_middle, row_high] = given.bytes;
         let column = Column::of_bytes(low, high);
         let row = Row::of_bytes(row_low, row_middle, row_high);
-        self.prepare(Phase::Addressed { setup, column, row }).when(self.can_name(row))
+        self.prepare(Phase::Addressed { setup, column, row })
+            .when(self.can_name(row))
     }
 
     // The identity bytes so far.
@@ -228,10 +309,26 @@ impl BusState {
         let byte = cycle.byte;
         match (self.phase, cycle.kind) {
             (_, Kind::Command) => self.command(Opcode::of(byte)),
-            (Phase::Identity, Kind::Address) => self.prepare(Phase::IdentityBytes { given: Given::NOTHING }).when(byte == 0),
-            (Phase::ReadSetup, Kind::Address) => begin(Phase::Addressing { setup: Setup::Read, given: Given::NOTHING.plus(byte) }),
-            (Phase::Addressing { setup, given }, Kind::Address) => self.address(setup, given.plus(byte)),
-            (Phase::Addressed { setup: Setup::Program, column, row }, Kind::DataIn) => load(row, column, column, byte),
+            (Phase::Identity, Kind::Address) => self.prepare(Phase::IdentityBytes {
+                    given: Given::NOTHING,
+                })
+                .when(byte == 0),
+            (Phase::ReadSetup, Kind::Address) => begin(Phase::Addressing {
+                setup: Setup::Read,
+                given: Given::NOTHING.plus(byte),
+            }),
+            (Phase::Addressing { setup, given }, Kind::Address) => self.address(
+                setup,
+                given.plus(byte),
+            ),
+            (
+                Phase::Addressed {
+                    setup: Setup::Program,
+                    column,
+                    row,
+                },
+                Kind::DataIn,
+            ) => load(row, column, column, byte),
             (Phase::Loading { row, start, next }, Kind::DataIn) => load(row, start, next, byte),
             (Phase::Status, Kind::DataOut) => Act::Status { byte },
             (Phase::IdentityBytes { given }, Kind::DataOut) => self.identify(given.plus(byte)),

@@ -25,13 +25,22 @@ pub struct Breaches {
 }
 
 impl Breaches {
-    pub const NONE: Breaches =
-        Breaches { while_busy: false, out_of_place: false, unfit_block: false, page_order: false, too_many_programs: false };
+    pub const NONE: Breaches = Breaches {
+        while_busy: false,
+        out_of_place: false,
+        unfit_block: false,
+        page_order: false,
+        too_many_programs: false,
+    };
 
     /// How many rules are broken.
     pub fn count(self) -> u16
         ensures { λ r. ⌜ r ≡ howMany self ⌝ }
     {
-        self.while_busy as u16 + self.out_of_place as u16 + self.unfit_block as u16 + self.page_order as u16 + self.too_many_programs as u16
+        self.while_busy as u16
+            + self.out_of_place as u16
+            + self.unfit_block as u16
+            + self.page_order as u16
+            + self.too_many_programs as u16
     }
 }

@@ -3,10 +3,6 @@ ghost use mathlib.Core.Path.{_≡_};
 ghost use Prim.Native.Nat.{_+_, min};
 ghost use Rattle.bus.specs.Breaches.{judged};
 ghost use Rattle.bus.specs.Bus.{ended, partAfter, confirmed, moved, counted, workDone, concerns, workEnded, changed};
-use flash::part::Part;
-use flash::record::BlockRecord;
-use flash::status::is_ready;
-use flash::status::Verdict;
 use crate::act::Act;
 use crate::act::Confirm;
 use crate::breach::Breaches;
@@ -14,6 +10,10 @@ use crate::state::BusState;
 use crate::state::Busy;
 use crate::state::Phase;
 use crate::state::Register;
+use flash::part::Part;
+use flash::record::BlockRecord;
+use flash::status::Verdict;
+use flash::status::is_ready;
 
 impl Busy {
     // The block whose program or erase this is.
@@ -44,7 +44,11 @@ impl BusState {
         ensures { λ _. ⌜ now (self .exit) ≡ ended (now (self .entry)) (now (self .entry) .busy) ⌝ }
     {
         match self.busy {
-            Busy::Read { row, column, copy } => self.register = Register::Full { row, column, copy },
+            Busy::Read { row, column, copy } => self.register = Register::Full {
+                row,
+                column,
+                copy,
+            },
             Busy::Program { .. } => self.chain = None,
             _ => {}
         }
@@ -105,13 +109,26 @@ impl BusState {
             }
             Act::Data { row, column, .. } => {
                 self.phase = Phase::Output;
-                self.register = Register::Full { row, column: column.next(), copy: false };
+                self.register = Register::Full {
+                    row,
+                    column: column.next(),
+                    copy: false,
+                };
             }
             Act::Erase { row } => {
                 self.phase = Phase::Quiet;
                 self.busy = Busy::Erase { block: row.block() };
             }
-            Act::Load { row, start, column, .. } => self.phase = Phase::Loading { row, start, next: column.next() },
+            Act::Load {
+                row,
+                start,
+                column,
+                ..
+            } => self.phase = Phase::Loading {
+                row,
+                start,
+                next: column.next(),
+            },
             Act::Program { row, confirm, .. } => self.begin_program(row.block(), confirm),
         }
     }
@@ -154,13 +171,24 @@ impl BusState {
         ensures { λ r. ⌜ r ≡ judged (now (self .entry)) (now (block .entry)) act ⌝ }
     {
         match act {
-            Act::WhileBusy => Breaches { while_busy: true, ..Breaches::NONE },
-            Act::OutOfPlace => Breaches { out_of_place: true, ..Breaches::NONE },
-            Act::Erase { .. } => Breaches { unfit_block: !block.is_fit(), ..Breaches::NONE },
+            Act::WhileBusy => Breaches {
+                while_busy: true,
+                ..Breaches::NONE
+            },
+            Act::OutOfPlace => Breaches {
+                out_of_place: true,
+                ..Breaches::NONE
+            },
+            Act::Erase { .. } => Breaches {
+                unfit_block: !block.is_fit(),
+                ..Breaches::NONE
+            },
             Act::Program { row, .. } => Breaches {
                 unfit_block: !block.is_fit(),
                 page_order: block.pages.out_of_order(self.chain.is_some(), row.page()),
-                too_many_programs: block.pages.programmed_out(self.programs_allowed(), row.page()),
+                too_many_programs: block
+                    .pages
+                    .programmed_out(self.programs_allowed(), row.page()),
                 ..Breaches::NONE
             },
             _ => Breaches::NONE,

@@ -7,11 +7,11 @@ ghost use Rattle.bus.specs.States.{firstBus, blocksIn};
 ghost use Rattle.bus.specs.Bus.{step, steps, recordIn, changedAt, changed};
 ghost use Rattle.bus.specs.Laws.{Lawful, Ever-sound};
 ghost use Rattle.bus.specs.Readers.{held, meant, told};
-use flash::cycle::Cycle;
-use flash::record::BlockRecord;
 use crate::act::Act;
 use crate::breach::Breaches;
 use crate::state::BusState;
+use flash::cycle::Cycle;
+use flash::record::BlockRecord;
 
 /// What a reader tells of one cycle: what it was, and which rules it broke.
 #[derive(Clone, Copy)]
@@ -36,7 +36,10 @@ impl<'a> BusReader<'a> {
         ensures sound { λ r. ⌜ Ever-sound (held r) ⌝ }
     {
         forget_all(blocks);
-        BusReader { bus: BusState::FIRST, blocks }
+        BusReader {
+            bus: BusState::FIRST,
+            blocks,
+        }
     }
 }
 

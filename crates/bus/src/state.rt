@@ -33,15 +33,28 @@ pub enum Phase {
     /// 90h was given: its address byte is to come.
     Identity,
     /// The identity bytes come.
-    IdentityBytes { given: Given },
+    IdentityBytes {
+        given: Given,
+    },
     /// 00h was given: an address, or bytes of the register.
     ReadSetup,
     /// Address bytes are being given.
-    Addressing { setup: Setup, given: Given },
+    Addressing {
+        setup: Setup,
+        given: Given,
+    },
     /// The whole address was given.
-    Addressed { setup: Setup, column: Column, row: Row },
+    Addressed {
+        setup: Setup,
+        column: Column,
+        row: Row,
+    },
     /// Bytes to program are being given, from `start` on; the next goes to `next`.
-    Loading { row: Row, start: Column, next: Column },
+    Loading {
+        row: Row,
+        start: Column,
+        next: Column,
+    },
 }
 
 /// What the chip is at work on. A chip that is busy takes only 70h and FFh.
@@ -49,10 +62,18 @@ pub enum Phase {
 pub enum Busy {
     Nothing,
     Reset,
-    Read { row: Row, column: Column, copy: bool },
+    Read {
+        row: Row,
+        column: Column,
+        copy: bool,
+    },
     CachePage,
-    Program { block: u32 },
-    Erase { block: u32 },
+    Program {
+        block: u32,
+    },
+    Erase {
+        block: u32,
+    },
 }
 
 /// The page that was read, and the column of the byte that comes next. The copy flag is up from a
@@ -60,7 +81,11 @@ pub enum Busy {
 #[derive(Clone, Copy)]
 pub enum Register {
     Empty,
-    Full { row: Row, column: Column, copy: bool },
+    Full {
+        row: Row,
+        column: Column,
+        copy: bool,
+    },
 }
 
 /// A chain is a run of cache programs of one block: open from the first 15h until a program ends it.
@@ -75,9 +100,15 @@ pub struct BusState {
 }
 
 impl Given {
-    pub const NOTHING: Given = Given { count: 0, bytes: [0; 5] };
+    pub const NOTHING: Given = Given {
+        count: 0,
+        bytes: [0; 5],
+    };
     /// An erase has no column: its address begins at the row.
-    pub const NO_COLUMN: Given = Given { count: 2, bytes: [0; 5] };
+    pub const NO_COLUMN: Given = Given {
+        count: 2,
+        bytes: [0; 5],
+    };
 
     /// One byte more; after five there is no place for another.
     pub fn plus(self, byte: u8) -> Given
@@ -86,7 +117,10 @@ impl Given {
         if self.count < 5 {
             let mut bytes = self.bytes;
             bytes[self.count as usize] = byte;
-            Given { count: self.count + 1, bytes }
+            Given {
+                count: self.count + 1,
+                bytes,
+            }
         } else {
             self
         }
@@ -118,8 +152,14 @@ impl Busy {
 
 impl BusState {
     /// Nothing known, nothing begun.
-    pub const FIRST: BusState =
-        BusState { part: None, phase: Phase::Quiet, busy: Busy::Nothing, register: Register::Empty, chain: None, breaches: 0 };
+    pub const FIRST: BusState = BusState {
+        part: None,
+        phase: Phase::Quiet,
+        busy: Busy::Nothing,
+        register: Register::Empty,
+        chain: None,
+        breaches: 0,
+    };
 
     /// The block of a program or erase that is busy, or else of an open chain.
     pub fn under_way(&self) -> Option<u32>

@@ -43,10 +43,11 @@ told-none t x = record { stands = refl; tells = sym (append-nil (map thing x)) }
 
 pub told-append : {t u v : Telling} {cs ds : List Cycle} {x y z : List Event} → Tellers.Told t u cs x y → Tellers.Told u v ds y z → Tellers.Told t v (cs ++ ds) x z
 told-append {t} {u} {v} {cs} {ds} {x} {y} {z} p q = record {
-    stands = q .stands ∙ (ap (λ w. follows w ds) (p .stands) ∙ sym (foldl-append follow t cs ds));
-    tells = q .tells ∙ (ap (λ l. l ++ events u ds) (p .tells)
-        ∙ (append-assoc (map thing x) (events t cs) (events u ds)
-        ∙ ap (λ l. map thing x ++ l) (ap (λ w. events t cs ++ events w ds) (p .stands) ∙ sym (events-append t cs ds)))) }
+  stands = q .stands ∙ (ap (λ w. follows w ds) (p .stands) ∙ sym (foldl-append follow t cs ds));
+  tells = q .tells ∙ (ap (λ l. l ++ events u ds) (p .tells)
+      ∙ (append-assoc (map thing x) (events t cs) (events u ds)
+      ∙ ap (λ l. map thing x ++ l) (ap (λ w. events t cs ++ events w ds) (p .stands) ∙ sym (events-append t cs ds))));
+}
 
 -- one cycle more of a list, and all of it
 pub told-more : {t u v : Telling} {x y z : List Event} (cs : List Cycle) (i : ℕ) (d : Cycle) → i < length cs

@@ -10,6 +10,7 @@ ghost use Rattle.bus.specs.States.{firstBus};
 ghost use Rattle.bus.specs.Breaches.{named, ifSo};
 ghost use Rattle.events.specs.Events.{broke, happened, handAfter};
 ghost use Rattle.events.specs.Tellers.{thing, listed, stands, Told, Told-front};
+use crate::event::Event;
 use bus::act::Act;
 use bus::breach::Breach;
 use bus::breach::Breaches;
@@ -19,7 +20,6 @@ use flash::cycle::Cycle;
 use flash::record::BlockRecord;
 use std::alloc::AllocError;
 use std::alloc::Global;
-use crate::event::Event;
 
 #[derive(Drop)]
 pub struct Teller<'a> {
@@ -52,7 +52,12 @@ fn tell_breaches(events: &mut Vec<Event>, cycle: u64, breaches: Breaches)
     tell_breach(events, cycle, breaches.out_of_place, Breach::OutOfPlace);
     tell_breach(events, cycle, breaches.unfit_block, Breach::UnfitBlock);
     tell_breach(events, cycle, breaches.page_order, Breach::PageOrder);
-    tell_breach(events, cycle, breaches.too_many_programs, Breach::TooManyPrograms);
+    tell_breach(
+        events,
+        cycle,
+        breaches.too_many_programs,
+        Breach::TooManyPrograms,
+    );
 }
 
 // What an act does. A program or a reset takes the bytes in hand; a byte to program is added to them.
@@ -76,9 +81,18 @@ fn tell_act(cycle: u64, act: Act, hand: &mut Vec<u8>, heap: Global) -> Option<Ev
             hand.push_reserved(byte);
             None
         }
-        Act::Program { row, column, confirm } => {
+        Act::Program {
+            row,
+            column,
+            confirm,
+        } => {
             let bytes = std::mem::replace(hand, Vec::new(heap));
-            Some(Event::Program { row, column, confirm, bytes })
+            Some(Event::Program {
+                row,
+                column,
+                confirm,
+                bytes,
+            })
         }
     }
 }
@@ -97,7 +111,12 @@ impl<'a> Teller<'a> {
     pub fn new(heap: Global, blocks: &'a mut [BlockRecord]) -> Teller<'a>
         ensures { λ r. ⌜ stands r ≡ record { reader = record { bus = firstBus; blocks = replicate (length (now (blocks .entry))) firstRecord }; hand = []; cycles = 0 } ⌝ }
     {
-        Teller { reader: BusReader::new(blocks), heap, hand: Vec::new(heap), cycles: 0 }
+        Teller {
+            reader: BusReader::new(blocks),
+            heap,
+            hand: Vec::new(heap),
+            cycles: 0,
+        }
     }
 }
 

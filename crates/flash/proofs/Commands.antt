@@ -32,17 +32,20 @@ link b k o p true rest h q r e = h refl ∙ (sym q ∙ ap byteOf (let s : p ≡ 
 link b k o p false rest h q r e = r e
 
 pub named-by-byte : Named-by-byte
-named-by-byte = (by-name, λ b o e.
-    link b 0xFF o op.Reset _ _ (eqb-true b _) refl
-    (link b 0x70 o op.ReadStatus _ _ (eqb-true b _) refl
-    (link b 0x90 o op.ReadId _ _ (eqb-true b _) refl
-    (link b 0x00 o op.Read _ _ (eqb-true b _) refl
-    (link b 0x30 o op.ReadConfirm _ _ (eqb-true b _) refl
-    (link b 0x35 o op.CopyReadConfirm _ _ (eqb-true b _) refl
-    (link b 0x60 o op.Erase _ _ (eqb-true b _) refl
-    (link b 0xD0 o op.EraseConfirm _ _ (eqb-true b _) refl
-    (link b 0x80 o op.Program _ _ (eqb-true b _) refl
-    (link b 0x85 o op.CopyProgram _ _ (eqb-true b _) refl
-    (link b 0x10 o op.ProgramConfirm _ _ (eqb-true b _) refl
-    (link b 0x15 o op.CacheConfirm _ _ (eqb-true b _) refl
-    (λ n. let z : _≡_ {A = ℕ} 0 1 = cc in absurd (omega arith))))))))))))) e)
+named-by-byte = (
+  by-name,
+  λ b o e.
+      link b 0xFF o op.Reset _ _ (eqb-true b _) refl
+      (link b 0x70 o op.ReadStatus _ _ (eqb-true b _) refl
+      (link b 0x90 o op.ReadId _ _ (eqb-true b _) refl
+      (link b 0x00 o op.Read _ _ (eqb-true b _) refl
+      (link b 0x30 o op.ReadConfirm _ _ (eqb-true b _) refl
+      (link b 0x35 o op.CopyReadConfirm _ _ (eqb-true b _) refl
+      (link b 0x60 o op.Erase _ _ (eqb-true b _) refl
+      (link b 0xD0 o op.EraseConfirm _ _ (eqb-true b _) refl
+      (link b 0x80 o op.Program _ _ (eqb-true b _) refl
+      (link b 0x85 o op.CopyProgram _ _ (eqb-true b _) refl
+      (link b 0x10 o op.ProgramConfirm _ _ (eqb-true b _) refl
+      (link b 0x15 o op.CacheConfirm _ _ (eqb-true b _) refl
+      (λ n. let z : _≡_ {A = ℕ} 0 1 = cc in absurd (omega arith))))))))))))) e,
+)

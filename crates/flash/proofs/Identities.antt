@@ -31,6 +31,7 @@ known OneGbit = refl
 known TwoGbit = refl
 
 pub told-by-identity : Told-by-identity
-told-by-identity bs p =
-    (λ e. told-one bs p (sameBytes bs (identityOf OneGbit)) (sameBytes bs (identityOf TwoGbit)) (sameBytes-decides _ _) (sameBytes-decides _ _) e
-    , λ e. rw e (known p))
+told-by-identity bs p = (
+  λ e. told-one bs p (sameBytes bs (identityOf OneGbit)) (sameBytes bs (identityOf TwoGbit)) (sameBytes-decides _ _) (sameBytes-decides _ _) e,
+  λ e. rw e (known p),
+)

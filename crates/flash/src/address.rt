@@ -3,7 +3,6 @@ ghost use Prim.Native.Nat.{_+_, _*_, _/_, _%_};
 ghost use mathlib.Core.List.{[], _∷_};
 ghost use mathlib.Core.Path.{_≡_};
 ghost use Rattle.flash.specs.Addresses.{lowBytes, columnOf, rowOf, blockOf, pageOf, inPage, nextColumn, atMark};
-
 use crate::geometry::COLUMNS;
 use crate::geometry::MARK_COLUMN;
 
@@ -43,7 +42,13 @@ impl Column {
     pub fn next(self) -> Column
         ensures { λ r. ⌜ r ≡ nextColumn self ⌝ }
     {
-        if self.number < COLUMNS { Column { number: self.number + 1 } } else { self }
+        if self.number < COLUMNS {
+            Column {
+                number: self.number + 1,
+            }
+        } else {
+            self
+        }
     }
 
     /// Whether the factory mark of a page stands here.
@@ -64,7 +69,9 @@ impl Column {
     pub fn of_bytes(low: u8, high: u8) -> Column
         ensures { λ r. ⌜ r ≡ columnOf (low ∷ high ∷ []) ⌝ }
     {
-        Column { number: u16::from(low) + 256 * u16::from(high) }
+        Column {
+            number: u16::from(low) + 256 * u16::from(high),
+        }
     }
 }
 
@@ -73,7 +80,9 @@ impl Row {
     pub fn new(block: u16, page: u8) -> Row
         ensures { λ r. ⌜ r ≡ record { number = 64 * block + page } ⌝ }
     {
-        Row { number: 64 * u32::from(block) + u32::from(page) }
+        Row {
+            number: 64 * u32::from(block) + u32::from(page),
+        }
     }
 
     pub fn block(self) -> u32
@@ -105,6 +114,8 @@ impl Row {
     pub fn of_bytes(low: u8, middle: u8, high: u8) -> Row
         ensures { λ r. ⌜ r ≡ rowOf (low ∷ middle ∷ high ∷ []) ⌝ }
     {
-        Row { number: u32::from(low) + 256 * (u32::from(middle) + 256 * u32::from(high)) }
+        Row {
+            number: u32::from(low) + 256 * (u32::from(middle) + 256 * u32::from(high)),
+        }
     }
 }

@@ -3,8 +3,8 @@
 pub mod address;
 pub mod cycle;
 pub mod geometry;
+pub mod laws;
 pub mod opcode;
 pub mod part;
 pub mod record;
 pub mod status;
-pub mod laws;

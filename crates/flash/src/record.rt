@@ -42,7 +42,11 @@ fn read_mark(mark: Mark, byte: u8) -> Mark
     ensures { λ r. ⌜ r ≡ Rattle.flash.specs.Records.readAs mark byte ⌝ }
 {
     match mark {
-        Mark::Unread => if byte == 0xFF { Mark::Clean } else { Mark::Marked },
+        Mark::Unread => if byte == 0xFF {
+            Mark::Clean
+        } else {
+            Mark::Marked
+        },
         _ => mark,
     }
 }
@@ -79,7 +83,10 @@ impl Pages {
                 if page < last {
                     self
                 } else if page == last {
-                    Pages::Last { page, count: if count < allowed { count + 1 } else { allowed } }
+                    Pages::Last {
+                        page,
+                        count: if count < allowed { count + 1 } else { allowed },
+                    }
                 } else {
                     Pages::Last { page, count: 1 }
                 }
@@ -90,7 +97,12 @@ impl Pages {
 
 impl BlockRecord {
     /// What is known of a block at first: nothing.
-    pub const FIRST: BlockRecord = BlockRecord { mark0: Mark::Unread, mark1: Mark::Unread, failed: false, pages: Pages::Stale };
+    pub const FIRST: BlockRecord = BlockRecord {
+        mark0: Mark::Unread,
+        mark1: Mark::Unread,
+        failed: false,
+        pages: Pages::Stale,
+    };
 
     /// Not failed, and both marks clean.
     pub fn is_fit(&self) -> bool

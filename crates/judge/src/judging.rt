@@ -1,4 +1,5 @@
 // A log on its way through: read, told and reported piece by piece.
+use crate::report::Report;
 use events::event::Event;
 use events::teller::Teller;
 use flash::cycle::Cycle;
@@ -9,7 +10,6 @@ use std::alloc::Global;
 use std::io;
 use std::io::Read;
 use std::io::Write;
-use crate::report::Report;
 
 /// How a log ended: after its last line, or before one that is no cycle.
 #[derive(Clone, Copy)]
@@ -29,7 +29,13 @@ pub struct Judging<'a, W: Write + Drop> {
 
 impl<'a, W: Write + Drop> Judging<'a, W> {
     pub fn new(heap: Global, teller: Teller<'a>, out: W) -> Judging<'a, W> {
-        Judging { teller, log: LogReader::new(), report: Report::new(out), cycles: Vec::new(heap), events: Vec::new(heap) }
+        Judging {
+            teller,
+            log: LogReader::new(),
+            report: Report::new(out),
+            cycles: Vec::new(heap),
+            events: Vec::new(heap),
+        }
     }
 
     // One piece of the log, of any length.

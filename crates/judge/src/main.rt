@@ -27,12 +27,15 @@ fn judge<R: Read>(rt: &LibcRuntime, input: &mut R) -> io::Result<()> {
 }
 
 fn judge_named(rt: &LibcRuntime, name: &String) -> io::Result<()> {
-    println!(rt, "# {name}")?;
     if name.as_str() == "-" {
+        println!(rt, "# {name}")?;
         return judge(rt, &mut rt.stdin());
     }
     match File::open(rt, name.as_str()) {
-        Ok(mut file) => judge(rt, &mut file),
+        Ok(mut file) => {
+            println!(rt, "# {name}")?;
+            judge(rt, &mut file)
+        }
         Err(error) => {
             eprintln!(rt, "{name}: {error}")?;
             Err(error)
@@ -46,5 +49,9 @@ fn main(rt: LibcRuntime) -> io::Result<()> {
         named = true;
         judge_named(&rt, &name)?;
     }
-    if named { Ok(()) } else { judge(&rt, &mut rt.stdin()) }
+    if named {
+        Ok(())
+    } else {
+        judge(&rt, &mut rt.stdin())
+    }
 }

@@ -101,15 +101,37 @@ impl<W: Write + Drop> Report<W> {
         }
         self.close_line()?;
         match event {
-            Event::Breach { cycle, breach } => writeln!(self.out, "breach at cycle {cycle}: {}", breach_name(*breach)),
+            Event::Breach { cycle, breach } => writeln!(
+                self.out,
+                "breach at cycle {cycle}: {}",
+                breach_name(*breach)
+            ),
             Event::Reset => writeln!(self.out, "reset"),
             Event::Status { byte } => writeln!(self.out, "status {byte:02X}"),
-            Event::Identity { bytes } => writeln!(self.out, "identity{} {}", Hex(bytes), part_name(Part::of_identity(*bytes))),
-            Event::Read { row, column, copy: false } => writeln!(self.out, "read {}", Place(*row, *column)),
-            Event::Read { row, column, copy: true } => writeln!(self.out, "copy-read {}", Place(*row, *column)),
+            Event::Identity { bytes } => writeln!(
+                self.out,
+                "identity{} {}",
+                Hex(bytes),
+                part_name(Part::of_identity(*bytes))
+            ),
+            Event::Read {
+                row,
+                column,
+                copy: false,
+            } => writeln!(self.out, "read {}", Place(*row, *column)),
+            Event::Read {
+                row,
+                column,
+                copy: true,
+            } => writeln!(self.out, "copy-read {}", Place(*row, *column)),
             Event::Data { .. } => Ok(()),
             Event::Erase { row } => writeln!(self.out, "erase block {}", row.block()),
-            Event::Program { row, column, confirm, bytes } => self.program(*confirm, Place(*row, *column), bytes.as_slice()),
+            Event::Program {
+                row,
+                column,
+                confirm,
+                bytes,
+            } => self.program(*confirm, Place(*row, *column), bytes.as_slice()),
         }
     }
 

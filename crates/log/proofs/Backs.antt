@@ -22,7 +22,7 @@ no-line-feed k h = grind (arith, tells)
 
 digits-back : (k : Kind) (h l : ℕ) → h < 16 → l < 16 → (n : ℕ) (cs : List Cycle)
     → reads (record { scan = scan.Blank; line = n; cycles = cs; stopped = false }) (digitOf k ∷ hexDigit h ∷ hexDigit l ∷ 10 ∷ [])
-        ≡ nextLine n (cs ++ record { kind = k; byte = h % 16 * 16 + l % 16 } ∷ [])
+    ≡ nextLine n (cs ++ record { kind = k; byte = h % 16 * 16 + l % 16 } ∷ [])
 digits-back Command h l p q n cs = simp (no-line-feed h p, no-line-feed l q, hex-back h p, hex-back l q)
 digits-back Address h l p q n cs = simp (no-line-feed h p, no-line-feed l q, hex-back h p, hex-back l q)
 digits-back DataIn h l p q n cs = simp (no-line-feed h p, no-line-feed l q, hex-back h p, hex-back l q)

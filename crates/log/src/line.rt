@@ -89,7 +89,12 @@ impl Scan {
         ensures { λ r. ⌜ r ≡ Rattle.log.specs.Lines.secondDigit kind high (hexOf byte) ⌝ }
     {
         match hex_of(byte) {
-            Some(low) => Scan::Whole { cycle: Cycle { kind, byte: (high % 16) * 16 + low % 16 } },
+            Some(low) => Scan::Whole {
+                cycle: Cycle {
+                    kind,
+                    byte: (high % 16) * 16 + low % 16,
+                },
+            },
             None => Scan::Bad,
         }
     }
@@ -124,7 +129,11 @@ fn hex_digit(value: u8) -> u8
     requires { ⌜ value < 16 ⌝ }
     ensures { λ r. ⌜ r ≡ hexDigit value ⌝ }
 {
-    if value < 10 { b'0' + value } else { b'A' - 10 + value }
+    if value < 10 {
+        b'0' + value
+    } else {
+        b'A' - 10 + value
+    }
 }
 
 fn kind_digit(kind: Kind) -> u8
@@ -143,5 +152,10 @@ pub fn line_for(cycle: Cycle) -> [u8; 4]
     ensures line { λ r. ⌜ r ≡ lineFor cycle ⌝ }
     ensures back { λ r. ⌜ Reads-back cycle r ⌝ }
 {
-    [kind_digit(cycle.kind), hex_digit(cycle.byte / 16), hex_digit(cycle.byte % 16), b'\n']
+    [
+        kind_digit(cycle.kind),
+        hex_digit(cycle.byte / 16),
+        hex_digit(cycle.byte % 16),
+        b'\n',
+    ]
 }

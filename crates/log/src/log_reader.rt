@@ -4,11 +4,11 @@ ghost use mathlib.Core.List.{[], _∷_};
 ghost use Rattle.std.specs.Of.Vec.{vec-items};
 ghost use Rattle.log.specs.Logs.{standing, begun, Went};
 ghost use Rattle.log.specs.declared.log_reader.LogError.the-variants.{Memory};
+use crate::line::Line;
+use crate::line::Scan;
 use flash::cycle::Cycle;
 use std::alloc::AllocError;
 use std::alloc::Refused;
-use crate::line::Line;
-use crate::line::Scan;
 
 /// Why a log is not read on.
 #[derive(Clone, Copy)]
@@ -37,7 +37,10 @@ impl LogReader {
     pub fn new() -> LogReader
         ensures { λ r. ⌜ standing r [] ≡ begun ⌝ }
     {
-        LogReader { scan: Scan::Blank, line: 1 }
+        LogReader {
+            scan: Scan::Blank,
+            line: 1,
+        }
     }
 
     fn read_byte(&mut self, byte: u8, cycles: &mut Vec<Cycle>) -> Result<(), LogError>

@@ -12,7 +12,8 @@ pub returns-then-broken : need.returns-then-broken
 returns-then-broken c =
     record {
       told = ap (map thing) (c .push-reserved .ensures .items)
-        ∙ (map-push thing (vec-items (c .args .events .now)) _
-        ∙ ap (λ b. map thing (vec-items (c .args .events .now)) ++ map (broke (c .args .cycle)) (ifSo b (c .args .breach))) (sym (c .if-broken .taken)));
+          ∙ (map-push thing (vec-items (c .args .events .now)) _
+          ∙ ap (λ b. map thing (vec-items (c .args .events .now)) ++ map (broke (c .args .cycle)) (ifSo b (c .args .breach))) (sym (c .if-broken .taken)));
       len = omega arith;
-      capacity = c .push-reserved .ensures .capacity }
+      capacity = c .push-reserved .ensures .capacity;
+    }

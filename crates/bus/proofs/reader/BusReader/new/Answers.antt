@@ -9,5 +9,6 @@ use Rattle.bus.proofs.reader.BusReader.new.Needs as need
 
 pub returns : need.returns
 returns c = record {
-    first = ap (λ ks. record { bus = firstBus; blocks = ks }) (c .forget-all .ensures);
-    sound = subst (λ ks. Ever-sound (record { bus = firstBus; blocks = ks })) (sym (c .forget-all .ensures)) (ever-sound (length (c .args .blocks .now))) }
+  first = ap (λ ks. record { bus = firstBus; blocks = ks }) (c .forget-all .ensures);
+  sound = subst (λ ks. Ever-sound (record { bus = firstBus; blocks = ks })) (sym (c .forget-all .ensures)) (ever-sound (length (c .args .blocks .now)));
+}

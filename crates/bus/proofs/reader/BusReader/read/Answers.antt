@@ -19,6 +19,7 @@ returns c =
     record {
       holds = after c;
       means = λ h. ap full (after c) ∙ sym (filled-step (held (c .args .self .now)) (c .args .cycle)
-        (omega (arith, h, blocks-rise (held (c .args .self .now)) (c .args .cycle), ap (λ r. blocksIn (r .bus .part)) (after c))));
+          (omega (arith, h, blocks-rise (held (c .args .self .now)) (c .args .cycle), ap (λ r. blocksIn (r .bus .part)) (after c))));
       lawful = subst (λ s. Lawful (held (c .args .self .now)) s (c .args .cycle)) (sym (after c)) (lawful (held (c .args .self .now)) (c .args .cycle));
-      tells = search needs }
+      tells = search needs;
+    }

@@ -10,9 +10,10 @@ pub loop-byte-holds : need.loop-byte-holds
 loop-byte-holds g c = (ap (λ n. lowBytes n (c .args .self .number)) (omega arith), length-replicate (g .N) 0)
 
 pub loop-byte-again : need.loop-byte-again
-loop-byte-again g c =
-    (bytes-more (g .N) (c .loop-byte .byte-index) (c .loop-byte .rest) (c .loop-byte .byte-items) (omega arith) (c .loop-byte .inv .1) ∙ c .loop-byte .inv .0
-    , search needs)
+loop-byte-again g c = (
+  bytes-more (g .N) (c .loop-byte .byte-index) (c .loop-byte .rest) (c .loop-byte .byte-items) (omega arith) (c .loop-byte .inv .1) ∙ c .loop-byte .inv .0,
+  search needs,
+)
 
 pub returns : need.returns
 returns g c =

@@ -87,7 +87,7 @@ impl BusState {
     }
 
     /// The bus moves by this act.
-    pub fn perform(&mut self, act: Act)
+    pub(crate) fn perform(&mut self, act: Act)
         ensures { λ _. ⌜ now (self .exit) ≡ moved (now (self .entry)) act ⌝ }
     {
         match act {
@@ -134,14 +134,14 @@ impl BusState {
     }
 
     /// Breaches are counted up to 65,535.
-    pub fn count(&mut self, breaches: Breaches)
+    pub(crate) fn count(&mut self, breaches: Breaches)
         ensures { λ _. ⌜ now (self .exit) ≡ counted (now (self .entry)) (Rattle.bus.specs.Breaches.howMany breaches) ⌝ }
     {
         self.breaches = self.breaches.saturating_add(breaches.count());
     }
 
     /// The block whose record an act concerns, if any.
-    pub fn concerned(&self, act: Act) -> Option<u32>
+    pub(crate) fn concerned(&self, act: Act) -> Option<u32>
         ensures { λ r. ⌜ r ≡ concerns (now (self .entry)) act ⌝ }
     {
         match act {
@@ -154,7 +154,7 @@ impl BusState {
     }
 
     /// What an act makes of the record of the block that it concerns.
-    pub fn change(&self, act: Act, block: &mut BlockRecord)
+    pub(crate) fn change(&self, act: Act, block: &mut BlockRecord)
         ensures { λ _. ⌜ now (block .exit) ≡ changed (now (self .entry)) act (now (block .entry)) ⌝ }
     {
         match act {
@@ -167,7 +167,7 @@ impl BusState {
     }
 
     /// The rules that an act breaks, judged on that record as it is before the act.
-    pub fn judge(&self, act: Act, block: &BlockRecord) -> Breaches
+    pub(crate) fn judge(&self, act: Act, block: &BlockRecord) -> Breaches
         ensures { λ r. ⌜ r ≡ judged (now (self .entry)) (now (block .entry)) act ⌝ }
     {
         match act {

@@ -111,7 +111,7 @@ impl Given {
     };
 
     /// One byte more; after five there is no place for another.
-    pub fn plus(self, byte: u8) -> Given
+    pub(crate) fn plus(self, byte: u8) -> Given
         ensures { λ r. ⌜ r ≡ plus self byte ⌝ }
     {
         if self.count < 5 {
@@ -129,7 +129,7 @@ impl Given {
 
 impl Phase {
     /// No command is half given.
-    pub fn is_quiet(self) -> bool
+    pub(crate) fn is_quiet(self) -> bool
         ensures { λ r. ⌜ r ≡ quiet self ⌝ }
     {
         match self {
@@ -140,7 +140,7 @@ impl Phase {
 }
 
 impl Busy {
-    pub fn is_nothing(self) -> bool
+    pub(crate) fn is_nothing(self) -> bool
         ensures { λ r. ⌜ r ≡ idle self ⌝ }
     {
         match self {

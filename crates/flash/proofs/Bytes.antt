@@ -6,7 +6,7 @@ use native.Mathlib.Omega.{arith}
 use native.Mathlib.Nat.{pow-succ'}
 use lib.ListN.{length, take, set}
 use Rattle.std.proofs.shelf.Lists.{take-more-set, take-all}
-use Rattle.flash.specs.Addresses.{lowBytes, number, Comes-back}
+use Rattle.flash.specs.Addresses.{lowBytes, number}
 
 -- one byte more is written, one fewer is left
 pub bytes-more : (n i w : ℕ) (xs : List ℕ) → i < n → length xs ≡ n
@@ -21,7 +21,8 @@ bytes-all n i w xs e l =
     ap (λ m. take i xs ++ lowBytes m w) (let z : n - i ≡ 0 = omega arith in z)
     ∙ (append-nil (take i xs) ∙ take-all i xs (omega arith))
 
-pub comes-back : Comes-back
+-- whatever the number of bytes: from them the number comes back
+pub comes-back : (n w : ℕ) → w < 256 ^ n → number (lowBytes n w) ≡ w
 comes-back zero w h = omega arith
 comes-back (suc n) w h =
     let less : w / 256 < 256 ^ n = omega (arith, pow-succ' 256 n) in

@@ -9,7 +9,7 @@ use Rattle.std.specs.Orderings.{Decides}
 use Rattle.std.specs.shelf.Text.{sameBytes}
 use Rattle.std.proofs.shelf.Equals.{sameBytes-decides}
 use Rattle.std.specs.declared.option.Option.the-variants.{None, Some}
-use Rattle.flash.specs.Parts.{identityOf, identified, Told-by-identity}
+use Rattle.flash.specs.Parts.{identityOf, identified, Told-by}
 use Rattle.flash.specs.declared.part.Part.{Part}
 use Rattle.flash.specs.declared.part.Part.the-variants.{OneGbit, TwoGbit}
 
@@ -30,8 +30,8 @@ known : (p : Part) → identified (identityOf p) ≡ Some p
 known OneGbit = refl
 known TwoGbit = refl
 
-pub told-by-identity : Told-by-identity
-told-by-identity bs p = (
+pub told-by : (bs : List ℕ) → Told-by (identified bs) bs
+told-by bs p = (
   λ e. told-one bs p (sameBytes bs (identityOf OneGbit)) (sameBytes bs (identityOf TwoGbit)) (sameBytes-decides _ _) (sameBytes-decides _ _) e,
   λ e. rw e (known p),
 )

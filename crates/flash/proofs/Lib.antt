@@ -1,3 +1,2 @@
 mod Bytes
-mod Commands
 mod Identities

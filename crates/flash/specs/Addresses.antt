@@ -1,6 +1,5 @@
 -- Numbers as address bytes, and back.
-use Prim.Native.Nat.{ℕ, zero, suc, _+_, _*_, _/_, _%_, _^_, _<_}
-use mathlib.Core.Path.{_≡_}
+use Prim.Native.Nat.{ℕ, zero, suc, _+_, _*_, _/_, _%_}
 use mathlib.Core.List.{List, [], _∷_}
 use mathlib.Core.Bool.{Bool, cond}
 use lib.Dec.{eqb, ltb}
@@ -41,7 +40,3 @@ blockOf r = r .number / 64
 
 abbrev pub pageOf : Row → ℕ
 pageOf r = r .number % 64
-
--- whatever the number of bytes: from them the number comes back
-abbrev pub Comes-back : Type 0
-Comes-back = (n w : ℕ) → w < 256 ^ n → number (lowBytes n w) ≡ w

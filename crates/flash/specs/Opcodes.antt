@@ -39,6 +39,7 @@ opcodeOf b =
     (cond (eqb b 0x15) (Some op.CacheConfirm)
     None)))))))))))
 
--- a byte is a command's exactly where the command is the byte's
-abbrev pub Named-by-byte : Type 0
-Named-by-byte = ((o : Opcode) → opcodeOf (byteOf o) ≡ Some o) × ((b : ℕ) (o : Opcode) → opcodeOf b ≡ Some o → b ≡ byteOf o)
+-- the command that a byte was found to be has that byte
+abbrev pub Named : Option Opcode → ℕ → Type 0
+Named None b = Unit {0}
+Named (Some o) b = b ≡ byteOf o

@@ -33,5 +33,6 @@ identified bs =
     cond (sameBytes bs (identityOf OneGbit)) (Some OneGbit)
     (cond (sameBytes bs (identityOf TwoGbit)) (Some TwoGbit) None)
 
-abbrev pub Told-by-identity : Type 0
-Told-by-identity = (bs : List ℕ) (p : Part) → (identified bs ≡ Some p → bs ≡ identityOf p) × (bs ≡ identityOf p → identified bs ≡ Some p)
+-- a part is told by its five bytes and by no others
+abbrev pub Told-by : Option Part → List ℕ → Type 0
+Told-by o bs = (p : Part) → (o ≡ Some p → bs ≡ identityOf p) × (bs ≡ identityOf p → o ≡ Some p)

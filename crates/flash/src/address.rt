@@ -1,5 +1,5 @@
 // Columns and rows: numbers of their own kind, turned into address bytes only here.
-ghost use Prim.Native.Nat.{_+_, _*_, _/_, _%_};
+ghost use Prim.Native.Nat.{_+_, _*_, _^_, _<_};
 ghost use mathlib.Core.List.{[], _∷_};
 ghost use mathlib.Core.Path.{_≡_};
 ghost use Rattle.flash.specs.Addresses.{lowBytes, columnOf, rowOf, blockOf, pageOf, inPage, nextColumn, atMark};
@@ -58,9 +58,10 @@ impl Column {
         self.number == MARK_COLUMN
     }
 
-    /// The two address bytes, low byte first.
+    /// The two address bytes, low byte first. From them the column comes back.
     pub fn bytes(self) -> [u8; 2]
-        ensures { λ r. ⌜ r ≡ lowBytes 2 (self .number) ⌝ }
+        ensures bytes { λ r. ⌜ r ≡ lowBytes 2 (self .number) ⌝ }
+        ensures back { λ r. ⌜ columnOf r ≡ self ⌝ }
     {
         self.number.to_le_bytes()
     }
@@ -98,8 +99,10 @@ impl Row {
     }
 
     /// The N lowest bytes of the row, lowest first: two on the 1 Gbit part, three on the 2 Gbit part.
+    /// From them the row comes back, if N bytes can hold it.
     pub fn bytes<const N: usize>(self) -> [u8; N]
-        ensures { λ r. ⌜ r ≡ lowBytes N (self .number) ⌝ }
+        ensures bytes { λ r. ⌜ r ≡ lowBytes N (self .number) ⌝ }
+        ensures back { λ r. ⌜ (self .number < 256 ^ N → rowOf r ≡ self) ⌝ }
     {
         let mut bytes = [0; N];
         let mut rest = self.number;

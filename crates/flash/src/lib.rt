@@ -3,7 +3,6 @@
 pub mod address;
 pub mod cycle;
 pub mod geometry;
-pub mod laws;
 pub mod opcode;
 pub mod part;
 pub mod record;

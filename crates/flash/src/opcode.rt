@@ -1,6 +1,7 @@
 // The command bytes that the parts share and the recorder needs.
 ghost use mathlib.Core.Path.{_≡_};
-ghost use Rattle.flash.specs.Opcodes.{opcodeOf, byteOf};
+ghost use Rattle.std.specs.declared.option.Option.the-variants.{Some};
+ghost use Rattle.flash.specs.Opcodes.{opcodeOf, byteOf, Named};
 
 #[derive(Clone, Copy)]
 pub enum Opcode {
@@ -21,7 +22,8 @@ pub enum Opcode {
 impl Opcode {
     /// The command that a byte stands for, if it is one of ours.
     pub fn of(byte: u8) -> Option<Opcode>
-        ensures { λ r. ⌜ r ≡ opcodeOf byte ⌝ }
+        ensures value { λ r. ⌜ r ≡ opcodeOf byte ⌝ }
+        ensures named { λ r. ⌜ Named r byte ⌝ }
     {
         match byte {
             0xFF => Some(Opcode::Reset),
@@ -42,7 +44,8 @@ impl Opcode {
 
     /// The byte of a command.
     pub fn byte(self) -> u8
-        ensures { λ r. ⌜ r ≡ byteOf self ⌝ }
+        ensures value { λ r. ⌜ r ≡ byteOf self ⌝ }
+        ensures back { λ r. ⌜ opcodeOf r ≡ Some self ⌝ }
     {
         self as u8
     }

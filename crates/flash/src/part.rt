@@ -1,6 +1,6 @@
 // The two parts, and the five bytes by which a chip says which one it is.
 ghost use mathlib.Core.Path.{_≡_};
-ghost use Rattle.flash.specs.Parts.{blocksOf, addressCycles, programsAllowed, identityOf, identified};
+ghost use Rattle.flash.specs.Parts.{blocksOf, addressCycles, programsAllowed, identityOf, identified, Told-by};
 
 #[derive(Clone, Copy)]
 pub enum Part {
@@ -53,9 +53,10 @@ impl Part {
         }
     }
 
-    /// The part with these five identity bytes, if there is one.
+    /// The part with these five identity bytes, if there is one: all five count.
     pub fn of_identity(bytes: [u8; 5]) -> Option<Part>
-        ensures { λ r. ⌜ r ≡ identified bytes ⌝ }
+        ensures value { λ r. ⌜ r ≡ identified bytes ⌝ }
+        ensures told { λ r. ⌜ Told-by r bytes ⌝ }
     {
         if bytes == ONE_GBIT_ID {
             Some(Part::OneGbit)

@@ -1,9 +1,9 @@
 use borrow.Author.Needs.{needs}
-use mathlib.Core.Path.{_∙_, sym, ap}
+use mathlib.Core.Path.{_≡_, _∙_, sym, ap}
 use native.Mathlib.Omega.{arith}
 use lib.ListN.{length-replicate}
-use Rattle.flash.specs.Addresses.{lowBytes}
-use Rattle.flash.proofs.Bytes.{bytes-more, bytes-all}
+use Rattle.flash.specs.Addresses.{lowBytes, rowOf}
+use Rattle.flash.proofs.Bytes.{bytes-more, bytes-all, comes-back}
 use Rattle.flash.proofs.address.Row.bytes.Needs as need
 
 pub loop-byte-holds : need.loop-byte-holds
@@ -17,4 +17,7 @@ loop-byte-again g c = (
 
 pub returns : need.returns
 returns g c =
-    sym (bytes-all (g .N) (c .loop-byte .byte-index) (c .loop-byte .rest) (c .loop-byte .byte-items) (omega arith) (c .loop-byte .inv .1)) ∙ c .loop-byte .inv .0
+    let written : c .loop-byte .byte-items ≡ lowBytes (g .N) (c .args .self .number) =
+      sym (bytes-all (g .N) (c .loop-byte .byte-index) (c .loop-byte .rest) (c .loop-byte .byte-items) (omega arith) (c .loop-byte .inv .1))
+      ∙ c .loop-byte .inv .0 in
+    record { bytes = written; back = λ h. ap rowOf written ∙ ap (λ w. record { number = w }) (comes-back (g .N) (c .args .self .number) h) }

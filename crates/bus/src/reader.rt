@@ -3,8 +3,9 @@ ghost use Prim.Native.Nat.{_≤_};
 ghost use lib.ListN.{length, getD, replicate};
 ghost use mathlib.Core.Path.{_≡_};
 ghost use Rattle.flash.specs.Records.{firstRecord};
+ghost use Rattle.bus.specs.Acts.{actOf};
 ghost use Rattle.bus.specs.States.{firstBus, blocksIn};
-ghost use Rattle.bus.specs.Bus.{step, steps, recordIn, changedAt, changed};
+ghost use Rattle.bus.specs.Bus.{done, step, steps, recordIn, changedAt, changed};
 ghost use Rattle.bus.specs.Laws.{Lawful, Ever-sound};
 ghost use Rattle.bus.specs.Readers.{held, meant, told};
 use crate::act::Act;
@@ -48,7 +49,8 @@ impl BusReader<'_> {
     pub fn bus(&self) -> BusState
         ensures { λ r. ⌜ r ≡ now (self .entry) .bus ⌝ }
     {
-        self.bus
+        let BusReader { bus, blocks: _ } = self;
+        *bus
     }
 
     /// What is known of a block; of one without a record, nothing.
@@ -70,12 +72,9 @@ impl BusReader<'_> {
         }
     }
 
-    /// One cycle more. The records and the bus step by the definition, over the records lent and,
-    /// where these are no fewer than the blocks of the part, also with them filled up to 2,048.
-    pub fn read(&mut self, cycle: Cycle) -> Told
-        ensures holds { λ _. ⌜ held (now (self .exit)) ≡ step (held (now (self .entry))) cycle ⌝ }
-        ensures means { λ _. ⌜ (blocksIn (now (self .exit) .bus .part) ≤ length (now (now (self .entry) .blocks)) → meant (now (self .exit)) ≡ step (meant (now (self .entry))) cycle) ⌝ }
-        ensures lawful { λ _. ⌜ Lawful (held (now (self .entry))) (held (now (self .exit))) cycle ⌝ }
+    // One cycle is taken: what it is, which rules it breaks, and what it does, in this order.
+    fn take(&mut self, cycle: Cycle) -> Told
+        ensures holds { λ _. ⌜ held (now (self .exit)) ≡ done (held (now (self .entry))) (actOf (now (self .entry) .bus) cycle) ⌝ }
         ensures tells { λ r. ⌜ r ≡ told (held (now (self .entry))) cycle ⌝ }
     {
         let bus = self.bus;
@@ -86,6 +85,17 @@ impl BusReader<'_> {
         self.bus.perform(act);
         self.bus.count(breaches);
         Told { act, breaches }
+    }
+
+    /// One cycle more. The records and the bus step by the definition, over the records lent and,
+    /// where these are no fewer than the blocks of the part, also with them filled up to 2,048.
+    pub fn read(&mut self, cycle: Cycle) -> Told
+        ensures holds { λ _. ⌜ held (now (self .exit)) ≡ step (held (now (self .entry))) cycle ⌝ }
+        ensures means { λ _. ⌜ (blocksIn (now (self .exit) .bus .part) ≤ length (now (now (self .entry) .blocks)) → meant (now (self .exit)) ≡ step (meant (now (self .entry))) cycle) ⌝ }
+        ensures lawful { λ _. ⌜ Lawful (held (now (self .entry))) (held (now (self .exit))) cycle ⌝ }
+        ensures tells { λ r. ⌜ r ≡ told (held (now (self .entry))) cycle ⌝ }
+    {
+        self.take(cycle)
     }
 
     /// A list of cycles, one after the other.

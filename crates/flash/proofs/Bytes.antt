@@ -9,12 +9,13 @@ use Rattle.std.proofs.shelf.Lists.{take-more-set, take-all}
 use Rattle.flash.specs.Addresses.{lowBytes, number}
 
 -- one byte more is written, one fewer is left
-pub bytes-more : (n i w : ℕ) (xs : List ℕ) → i < n → length xs ≡ n
-    → take (i + 1) (set xs i (w % 256)) ++ lowBytes (n - (i + 1)) (w / 256) ≡ take i xs ++ lowBytes (n - i) w
-bytes-more n i w xs h l =
-    ap (λ ys. ys ++ lowBytes (n - (i + 1)) (w / 256)) (take-more-set xs i (w % 256) (omega arith))
-    ∙ (append-assoc (take i xs) ((w % 256) ∷ []) (lowBytes (n - (i + 1)) (w / 256))
-    ∙ ap (λ m. take i xs ++ lowBytes m w) (let e : suc (n - (i + 1)) ≡ n - i = omega arith in e))
+pub bytes-more : (n i w b : ℕ) (xs : List ℕ) → b ≡ w % 256 → i < n → length xs ≡ n
+    → take (i + 1) (set xs i b) ++ lowBytes (n - (i + 1)) (w / 256) ≡ take i xs ++ lowBytes (n - i) w
+bytes-more n i w b xs e h l =
+    ap (λ ys. ys ++ lowBytes (n - (i + 1)) (w / 256)) (take-more-set xs i b (omega arith))
+    ∙ (append-assoc (take i xs) (b ∷ []) (lowBytes (n - (i + 1)) (w / 256))
+    ∙ (ap (λ x. take i xs ++ (x ∷ lowBytes (n - (i + 1)) (w / 256))) e
+    ∙ ap (λ m. take i xs ++ lowBytes m w) (let e : suc (n - (i + 1)) ≡ n - i = omega arith in e)))
 
 pub bytes-all : (n i w : ℕ) (xs : List ℕ) → n ≡ i → length xs ≡ n → take i xs ++ lowBytes (n - i) w ≡ xs
 bytes-all n i w xs e l =

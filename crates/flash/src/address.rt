@@ -1,5 +1,5 @@
 // Columns and rows: numbers of their own kind, turned into address bytes only here.
-ghost use Prim.Native.Nat.{_+_, _*_, _^_, _<_};
+ghost use Prim.Native.Nat.{_+_, _*_, _%_, _^_, _<_};
 ghost use mathlib.Core.List.{[], _∷_};
 ghost use mathlib.Core.Path.{_≡_};
 ghost use Rattle.flash.specs.Addresses.{lowBytes, columnOf, rowOf, blockOf, pageOf, inPage, nextColumn, atMark};
@@ -28,7 +28,8 @@ impl Column {
     pub fn number(self) -> u16
         ensures { λ r. ⌜ r ≡ self .number ⌝ }
     {
-        self.number
+        let Column { number: plain } = self;
+        plain
     }
 
     /// Whether the page has this column.
@@ -42,7 +43,7 @@ impl Column {
     pub fn next(self) -> Column
         ensures { λ r. ⌜ r ≡ nextColumn self ⌝ }
     {
-        if self.number < COLUMNS {
+        if self.is_in_page() {
             Column {
                 number: self.number + 1,
             }
@@ -76,6 +77,12 @@ impl Column {
     }
 }
 
+fn low_byte(number: u32) -> u8
+    ensures { λ r. ⌜ r ≡ number % 256 ⌝ }
+{
+    (number % 256) as u8
+}
+
 impl Row {
     /// The row of a page of a block.
     pub fn new(block: u16, page: u8) -> Row
@@ -107,7 +114,7 @@ impl Row {
         let mut bytes = [0; N];
         let mut rest = self.number;
         for byte in bytes.iter_mut() {
-            *byte = (rest % 256) as u8;
+            *byte = low_byte(rest);
             rest /= 256;
         }
         bytes

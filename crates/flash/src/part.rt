@@ -1,5 +1,6 @@
 // The two parts, and the five bytes by which a chip says which one it is.
 ghost use mathlib.Core.Path.{_≡_};
+ghost use Rattle.std.specs.shelf.Text.{sameBytes};
 ghost use Rattle.flash.specs.Parts.{blocksOf, addressCycles, programsAllowed, identityOf, identified, Told-by};
 
 #[derive(Clone, Copy)]
@@ -11,6 +12,24 @@ pub enum Part {
 pub const ONE_GBIT_ID: [u8; 5] = [0xC8, 0xD1, 0x80, 0x95, 0x42];
 
 pub const TWO_GBIT_ID: [u8; 5] = [0xC8, 0xDA, 0x90, 0x95, 0x44];
+
+fn same_five(a: [u8; 5], b: [u8; 5]) -> bool
+    ensures { λ r. ⌜ r ≡ sameBytes a b ⌝ }
+{
+    a == b
+}
+
+fn named(bytes: [u8; 5]) -> Option<Part>
+    ensures { λ r. ⌜ r ≡ identified bytes ⌝ }
+{
+    if same_five(bytes, ONE_GBIT_ID) {
+        Some(Part::OneGbit)
+    } else if same_five(bytes, TWO_GBIT_ID) {
+        Some(Part::TwoGbit)
+    } else {
+        None
+    }
+}
 
 impl Part {
     /// How many blocks the part has.
@@ -58,12 +77,6 @@ impl Part {
         ensures value { λ r. ⌜ r ≡ identified bytes ⌝ }
         ensures told { λ r. ⌜ Told-by r bytes ⌝ }
     {
-        if bytes == ONE_GBIT_ID {
-            Some(Part::OneGbit)
-        } else if bytes == TWO_GBIT_ID {
-            Some(Part::TwoGbit)
-        } else {
-            None
-        }
+        named(bytes)
     }
 }

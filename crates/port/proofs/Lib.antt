@@ -1,0 +1,3 @@
+mod Sendings
+mod TapeSteps
+pub mod Took

@@ -53,6 +53,14 @@ impl BusReader<'_> {
         *bus
     }
 
+    /// How many block records the reader was lent.
+    pub fn records(&self) -> usize
+        ensures { λ r. ⌜ r ≡ length (held (now (self .entry)) .blocks) ⌝ }
+    {
+        let BusReader { bus: _, blocks } = self;
+        blocks.len()
+    }
+
     /// What is known of a block; of one without a record, nothing.
     pub fn block(&self, block: u32) -> BlockRecord
         ensures { λ r. ⌜ r ≡ getD (held (now (self .entry)) .blocks) block firstRecord ⌝ }

@@ -93,6 +93,16 @@ impl Row {
         }
     }
 
+    /// How many rows come before it.
+    pub fn number(self) -> u32
+        ensures { λ r. ⌜ r ≡ self .number ⌝ }
+    {
+        let Row {
+            number: rows_before,
+        } = self;
+        rows_before
+    }
+
     pub fn block(self) -> u32
         ensures { λ r. ⌜ r ≡ blockOf self ⌝ }
     {

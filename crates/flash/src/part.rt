@@ -13,7 +13,8 @@ pub const ONE_GBIT_ID: [u8; 5] = [0xC8, 0xD1, 0x80, 0x95, 0x42];
 
 pub const TWO_GBIT_ID: [u8; 5] = [0xC8, 0xDA, 0x90, 0x95, 0x44];
 
-fn same_five(a: [u8; 5], b: [u8; 5]) -> bool
+/// Whether two times five bytes are the same.
+pub fn same_five(a: [u8; 5], b: [u8; 5]) -> bool
     ensures { λ r. ⌜ r ≡ sameBytes a b ⌝ }
 {
     a == b

@@ -48,7 +48,11 @@ fn report(rt: &LibcRuntime, kinds: Kinds, breaches: u16) -> io::Result<()> {
 
 // Cycles a second, from the time that they took.
 fn rate(cycles: usize, micros: u128) -> u128 {
-    if micros == 0 { 0 } else { cycles as u128 * 1_000_000 / micros }
+    if micros == 0 {
+        0
+    } else {
+        cycles as u128 * 1_000_000 / micros
+    }
 }
 
 fn timed(rt: &LibcRuntime) -> io::Result<bool> {
@@ -73,7 +77,11 @@ fn main(rt: LibcRuntime) -> io::Result<()> {
     let judged = start.elapsed(&rt)?.as_micros();
     report(&rt, kinds, reader.bus().breaches)?;
     if timed(&rt)? {
-        println!(rt, "counted {} cycles a second", rate(cycles.len(), counted))?;
+        println!(
+            rt,
+            "counted {} cycles a second",
+            rate(cycles.len(), counted)
+        )?;
         println!(rt, "judged {} cycles a second", rate(cycles.len(), judged))?;
     }
     Ok(())

@@ -5,5 +5,6 @@ use Rattle.port.proofs.tape.TapePort.take.Needs as need
 
 pub returns : need.returns
 returns c = record {
-    steps = tape-step _ _ _ (omega arith);
-    writes = (c .reply-byte .ensures, record { places = refl; next = refl; replies = refl; used = c .saturating-add-self .ensures }) }
+  steps = tape-step _ _ _ (omega arith);
+  writes = (c .reply-byte .ensures, record { places = refl; next = refl; replies = refl; used = c .saturating-add-self .ensures });
+}

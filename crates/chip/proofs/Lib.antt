@@ -1,0 +1,4 @@
+mod Alterations
+mod Owns
+mod Ports
+mod Steps

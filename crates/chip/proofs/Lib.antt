@@ -1,4 +1,5 @@
 mod Alterations
+mod Keeps
 mod Owns
 mod Ports
 mod Steps

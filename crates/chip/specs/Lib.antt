@@ -1,3 +1,4 @@
 pub mod Cells
 pub mod Chips
 pub mod Models
+pub mod Kept

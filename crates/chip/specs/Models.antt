@@ -11,6 +11,7 @@ use Rattle.flash.specs.declared.cycle.Cycle.{Cycle}
 use Rattle.port.specs.Meanings.{Meaning}
 use Rattle.chip.specs.Cells.{blankPage}
 use Rattle.chip.specs.Chips.{Memory, Chip, chipStep, enough, roomFor}
+use Rattle.chip.specs.Kept.{Kept}
 use Rattle.chip.specs.declared.model.ModelChip.{ModelChip}
 
 abbrev pub memoryOf : ModelChip → Memory
@@ -33,9 +34,10 @@ meansOf k = record { reader = meant (k .reader); room = roomOf k; trail = [] }
 abbrev pub unmoved : List ℕ → Cycle → List ℕ
 unmoved t c = t
 
--- the chip took this cycle, part and status bytes stay
+-- the chip took this cycle by the definition, its memory keeps the law, part and status bytes stay
 pub record Ran (k l : ModelChip) (c : Cycle) : Type 0 where
   pub chip : chipOf l ≡ chipStep (k .statuses .now) (chipOf k) c
+  pub kept : Kept (chipOf k) (chipOf l) c
   pub part : l .part ≡ k .part
   pub statuses : l .statuses .now ≡ k .statuses .now
 

@@ -6,6 +6,7 @@ ghost use Rattle.bus.specs.Bus.{step as busStep};
 ghost use Rattle.bus.specs.Readers.{held, meant};
 ghost use Rattle.bus.specs.States.{blocksIn};
 ghost use Rattle.chip.specs.Chips.{answer, cellsAfter, chipStep, newPage, pageAfter};
+ghost use Rattle.chip.specs.Kept.{Kept};
 ghost use Rattle.chip.specs.Models.{memoryOf, chipOf, roomOf, hasRoom, meansOf, unmoved, Ran, Rests, firstChip};
 ghost use Rattle.port.specs.Meanings.{Fresh, Stepped, Refused, driven, gave};
 ghost use Rattle.flash.specs.Parts.{blocksOf};
@@ -125,6 +126,7 @@ impl ModelChip<'_> {
     fn step(&mut self, cycle: Cycle)
         ensures chip { λ _. ⌜ chipOf (now (self .exit)) ≡ chipStep (now (now (self .entry) .statuses)) (chipOf (now (self .entry))) cycle ⌝ }
         ensures means { λ _. ⌜ (blocksIn (now (self .exit) .reader .bus .part) ≤ length (now (now (self .entry) .reader .blocks)) → meant (now (self .exit) .reader) ≡ busStep (meant (now (self .entry) .reader)) cycle) ⌝ }
+        ensures kept { λ _. ⌜ Kept (chipOf (now (self .entry))) (chipOf (now (self .exit))) cycle ⌝ }
         ensures part { λ _. ⌜ now (self .exit) .part ≡ now (self .entry) .part ⌝ }
         ensures statuses { λ _. ⌜ now (now (self .exit) .statuses) ≡ now (now (self .entry) .statuses) ⌝ }
     {

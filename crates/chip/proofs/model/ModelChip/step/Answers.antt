@@ -7,8 +7,10 @@ use Rattle.bus.specs.Readers.{held, meant}
 use Rattle.bus.specs.States.{blocksIn}
 use Rattle.bus.specs.declared.reader.BusReader.{BusReader}
 use Rattle.chip.specs.Chips.{Memory, chipStep, remembers, statusAfter, cellsAfter}
-use Rattle.chip.specs.Models.{memoryOf}
+use Rattle.chip.specs.Models.{memoryOf, chipOf}
 use Rattle.chip.specs.declared.model.ModelChip.{ModelChip}
+use Rattle.chip.specs.Kept.{Kept}
+use Rattle.chip.proofs.Keeps.{kept}
 use Rattle.chip.proofs.Steps.{remembered}
 use Rattle.chip.proofs.model.ModelChip.step.Needs as need
 
@@ -34,9 +36,12 @@ returns c =
     ∙ (ap (λ x. statusAfter x (c .act-act .result) (q .status)) statuses ∙ ap (λ x. statusAfter (k .statuses .now) (c .act-act .result) x) status))
     ∙ (ap (λ a. remembers (k .statuses .now) (c .bus-bus .result) a (memoryOf k)) (c .act-act .ensures)
     ∙ ap (λ u. remembers (k .statuses .now) u (actOf u (c .args .cycle)) (memoryOf k)) (c .bus-bus .ensures)) in
+    let ran : record { reader = held (c .read .last .self); memory = after } ≡ chipStep (k .statuses .now) (chipOf k) (c .args .cycle) =
+      ap (λ r. record { reader = r; memory = after }) (c .read .ensures .holds ∙ ap (λ r. step (held r) (c .args .cycle)) reader)
+      ∙ ap (λ x. record { reader = step (held (k .reader)) (c .args .cycle); memory = x }) same in
     record {
-      chip = ap (λ r. record { reader = r; memory = after }) (c .read .ensures .holds ∙ ap (λ r. step (held r) (c .args .cycle)) reader)
-          ∙ ap (λ x. record { reader = step (held (k .reader)) (c .args .cycle); memory = x }) same;
+      chip = ran;
+      kept = subst (λ x. Kept (chipOf k) x (c .args .cycle)) (sym ran) (kept (k .statuses .now) (chipOf k) (c .args .cycle));
       means = subst (λ (r : BusReader). blocksIn (c .read .last .self .bus .part) ≤ length (r .blocks .now) → meant (c .read .last .self) ≡ step (meant r) (c .args .cycle)) reader (c .read .ensures .means);
       part = c .turn-cells .ensures .part ∙ c .turn-page .ensures .part;
       statuses = statuses;

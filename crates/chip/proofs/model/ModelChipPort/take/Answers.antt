@@ -18,5 +18,5 @@ returns c =
       steps = chip-stepped k (c .step .last .self) (gave (c .byte-out-byte .result)) (k .statuses .now) (c .step .ensures .chip) (c .step .ensures .means) (c .step .ensures .part) room
           (subst (λ b. own (k .part) (moved (k .reader .bus) (actOf (k .reader .bus) (gave b))) ≡ true) (sym (c .byte-out-byte .ensures))
           (take-own (k .part) (k .reader .bus) (memoryOf k) (room-own k room)));
-      runs = (c .byte-out-byte .ensures, record { chip = c .step .ensures .chip; part = c .step .ensures .part; statuses = c .step .ensures .statuses });
+      runs = (c .byte-out-byte .ensures, record { chip = c .step .ensures .chip; kept = c .step .ensures .kept; part = c .step .ensures .part; statuses = c .step .ensures .statuses });
     }

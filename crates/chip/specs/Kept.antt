@@ -1,0 +1,59 @@
+-- What one cycle may do to the memory of a chip: `k` is the chip before the cycle `c`, `l` after it.
+use Prim.Native.Nat.{ℕ, _*_, _<_}
+use mathlib.Core.Path.{_≡_}
+use mathlib.Core.Bool.{Bool, true, false, _||_}
+use mathlib.Core.List.{List}
+use lib.Bits.{bitAnd}
+use lib.Dec.{eqb}
+use lib.ListN.{getD, length, set}
+use Rattle.flash.specs.Addresses.{blockOf}
+use Rattle.flash.specs.Statuses.{ready}
+use Rattle.flash.specs.declared.address.Column.{Column}
+use Rattle.flash.specs.declared.address.Row.{Row}
+use Rattle.flash.specs.declared.cycle.Cycle.{Cycle}
+use Rattle.flash.specs.declared.cycle.Kind.the-variants.{Command, Address, DataIn, DataOut}
+use Rattle.bus.specs.Acts.{actOf}
+use Rattle.bus.specs.Bus.{breachesOf}
+use Rattle.bus.specs.States.{nothingGiven}
+use Rattle.bus.specs.declared.act.Act.the-variants as act
+use Rattle.bus.specs.declared.act.Confirm.{Confirm}
+use Rattle.bus.specs.declared.breach.Breaches.{Breaches}
+use Rattle.bus.specs.declared.state.Busy.the-variants as busy
+use Rattle.bus.specs.declared.state.Phase.the-variants as phase
+use Rattle.bus.specs.declared.state.Register.{Register}
+use Rattle.bus.specs.declared.state.Setup.the-variants as setup
+use Rattle.chip.specs.Cells.{cellAt, cellOf, among, blankPage}
+use Rattle.chip.specs.Chips.{Chip}
+
+abbrev pub broken : Chip → Cycle → Breaches
+broken k c = breachesOf (k .reader) (actOf (k .reader .bus) c)
+
+-- the confirms that may change cells: D0h, 10h, 15h
+abbrev pub confirms : Cycle → Bool
+confirms c = elim (c .kind) [ Command ↦ eqb (c .byte) 0xD0 || (eqb (c .byte) 0x10 || eqb (c .byte) 0x15) | Address ↦ false | DataIn ↦ false | DataOut ↦ false ]
+
+-- a program of a row: each cell of it that there is memory for is ANDed with the byte that waits in
+-- its column, and no cell elsewhere changes
+pub record Programmed (before page after : List ℕ) (row : ℕ) : Type 0 where
+  pub here : (j : ℕ) → j < 2112 → cellOf row j < length before → cellAt after (cellOf row j) ≡ bitAnd (cellAt before (cellOf row j)) (getD page j 0)
+  pub elsewhere : (i : ℕ) → among (2112 * row) 2112 i ≡ false → cellAt after i ≡ cellAt before i
+
+-- an erase of a block: all its cells are FFh, and no cell elsewhere changes
+pub record Erased (before after : List ℕ) (block : ℕ) : Type 0 where
+  pub here : (i : ℕ) → among (135168 * block) 135168 i ≡ true → cellAt after i ≡ 0xFF
+  pub elsewhere : (i : ℕ) → among (135168 * block) 135168 i ≡ false → cellAt after i ≡ cellAt before i
+
+pub record Kept (k l : Chip) (c : Cycle) : Type 0 where
+  -- a cycle that is while busy or out of place changes no cell, nor does any but a confirm
+  pub whileBusy : broken k c .«while_busy» ≡ true → l .memory .cells ≡ k .memory .cells
+  pub outOfPlace : broken k c .«out_of_place» ≡ true → l .memory .cells ≡ k .memory .cells
+  pub others : confirms c ≡ false → l .memory .cells ≡ k .memory .cells
+  -- a confirm that is taken, also one that breaks another rule
+  pub programs : (w : Row) (s : Column) (f : Confirm) → actOf (k .reader .bus) c ≡ act.Program w s f
+      → Programmed (k .memory .cells) (k .memory .page) (l .memory .cells) (w .number)
+  pub erases : (w : Row) → actOf (k .reader .bus) c ≡ act.Erase w → Erased (k .memory .cells) (l .memory .cells) (blockOf w)
+  -- what waits for the confirm: FFh from 80h on, then each byte in its column; or the page of a copy read that ends
+  pub begins : (g : Register) → actOf (k .reader .bus) c ≡ act.Prepare (phase.Addressing setup.Program nothingGiven) g → l .memory .page ≡ blankPage
+  pub loads : (w : Row) (s n : Column) (b : ℕ) → actOf (k .reader .bus) c ≡ act.Load w s n b → l .memory .page ≡ set (k .memory .page) (n .number) b
+  pub copies : (w : Row) (s : Column) (b : ℕ) → actOf (k .reader .bus) c ≡ act.Status b → ready b ≡ true → k .reader .bus .busy ≡ busy.Read w s true
+      → (j : ℕ) → j < 2112 → getD (l .memory .page) j 0 ≡ cellAt (k .memory .cells) (cellOf (w .number) j)

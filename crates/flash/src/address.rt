@@ -98,9 +98,9 @@ impl Row {
         ensures { λ r. ⌜ r ≡ self .number ⌝ }
     {
         let Row {
-            number: rows_before,
+            number: rows,
         } = self;
-        rows_before
+        rows
     }
 
     pub fn block(self) -> u32

@@ -41,7 +41,7 @@ altered-past : (f : ℕ → ℕ → ℕ) (cs : List ℕ) (k : ℕ) → length cs
 altered-past f cs k h = getD-past (altered f 0 cs) k 0xFF (omega (arith, altered-length f cs 0))
 
 -- a cell that an alteration leaves
-altered-else : (f : ℕ → ℕ → ℕ) (cs : List ℕ) (k : ℕ) → f k (cellAt cs k) ≡ cellAt cs k → cellAt (altered f 0 cs) k ≡ cellAt cs k
+pub altered-else : (f : ℕ → ℕ → ℕ) (cs : List ℕ) (k : ℕ) → f k (cellAt cs k) ≡ cellAt cs k → cellAt (altered f 0 cs) k ≡ cellAt cs k
 altered-else f cs k e =
     ⊎-elim (λ l. altered-cell f cs k l ∙ e) (λ l. altered-past f cs k l ∙ sym (getD-past cs k 0xFF l)) (cases-lt k (length cs))
 

@@ -2,4 +2,5 @@ mod Alterations
 mod Keeps
 mod Owns
 mod Ports
+mod Spans
 mod Steps

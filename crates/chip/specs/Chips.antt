@@ -1,7 +1,7 @@
 -- The model chip: its memory beside the bus reader.
 use Prim.Native.Nat.{ℕ}
 use mathlib.Core.Bool.{Bool, true, false, cond, _&&_}
-use mathlib.Core.List.{List, [], _∷_}
+use mathlib.Core.List.{List, [], _∷_, foldl}
 use lib.Dec.{eqb, leb, ltb}
 use lib.ListN.{getD, set}
 use Rattle.std.specs.declared.option.Option.{Option}
@@ -164,6 +164,9 @@ pub record Chip : Type 0 where
 
 unfoldable pub chipStep : List ℕ → Chip → Cycle → Chip
 chipStep statuses k c = record { reader = step (k .reader) c; memory = remembers statuses (k .reader .bus) (actOf (k .reader .bus) c) (k .memory) }
+
+abbrev pub chipSteps : List ℕ → Chip → List Cycle → Chip
+chipSteps statuses k cs = foldl (chipStep statuses) k cs
 
 -- the reader has heard of no other part than this: so it is from the first cycle on
 abbrev pub samePart : Part → Part → Bool

@@ -97,9 +97,7 @@ impl Row {
     pub fn number(self) -> u32
         ensures { λ r. ⌜ r ≡ self .number ⌝ }
     {
-        let Row {
-            number: rows,
-        } = self;
+        let Row { number: rows } = self;
         rows
     }
 

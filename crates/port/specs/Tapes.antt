@@ -40,3 +40,10 @@ pub record Kept (t u : Tape) : Type 0 where
 
 abbrev pub oneMore : ℕ → ℕ
 oneMore n = min (n + 1) (2 ^ 64 - 1)
+
+-- one more reply is used, and nothing written
+pub record Used (t u : Tape) : Type 0 where
+  pub places : u .places .now ≡ t .places .now
+  pub next : u .next ≡ t .next
+  pub replies : u .replies .now ≡ t .replies .now
+  pub used : u .used ≡ oneMore (t .used)

@@ -1,5 +1,5 @@
 // A port that writes each cycle into its owner's list, and answers from a list of replies.
-ghost use Prim.Native.Nat.{_-_};
+ghost use Prim.Native.Nat.{_<_};
 ghost use denote.Ref.{now};
 ghost use lib.ListN.{length, take};
 ghost use mathlib.Core.List.{[]};
@@ -7,7 +7,7 @@ ghost use mathlib.Core.Path.{_≡_};
 ghost use Rattle.std.specs.Results.{Cases};
 ghost use Rattle.bus.specs.Bus.{first};
 ghost use Rattle.port.specs.Meanings.{Stepped, Refused, driven, gave};
-ghost use Rattle.port.specs.Tapes.{taped, appended, writtenOn, nextReply, Wrote, Kept, oneMore};
+ghost use Rattle.port.specs.Tapes.{taped, appended, writtenOn, nextReply, Wrote, Kept, Used, oneMore};
 use crate::port::Full;
 use crate::port::HostCycle;
 use crate::port::HostKind;
@@ -85,6 +85,25 @@ impl Tape<'_> {
             0xFF
         }
     }
+
+    // The next reply is used up.
+    fn take_reply(&mut self) -> u8
+        ensures reply { λ r. ⌜ r ≡ nextReply (now (self .entry)) ⌝ }
+        ensures kept { λ _. ⌜ Used (now (self .entry)) (now (self .exit)) ⌝ }
+    {
+        let byte = self.reply();
+        self.used = self.used.saturating_add(1);
+        byte
+    }
+
+    // A cycle is written at the next place.
+    fn write(&mut self, cycle: Cycle)
+        requires { ⌜ now self .next < length (now (now self .places)) ⌝ }
+        ensures { λ _. ⌜ Wrote (now (self .entry)) (now (self .exit)) cycle (now (self .entry) .used) ⌝ }
+    {
+        self.places[self.next] = cycle;
+        self.next += 1;
+    }
 }
 
 pub impl Port for Tape<'_> as TapePort {
@@ -103,8 +122,7 @@ pub impl Port for Tape<'_> as TapePort {
         if self.next >= self.places.len() {
             return Err(Full);
         }
-        self.places[self.next] = cycle.cycle();
-        self.next += 1;
+        self.write(cycle.cycle());
         Ok(())
     }
 
@@ -115,13 +133,11 @@ pub impl Port for Tape<'_> as TapePort {
         if self.next >= self.places.len() {
             return Err(Full);
         }
-        let byte = self.reply();
-        self.used = self.used.saturating_add(1);
-        self.places[self.next] = Cycle {
+        let byte = self.take_reply();
+        self.write(Cycle {
             kind: Kind::DataOut,
             byte,
-        };
-        self.next += 1;
+        });
         Ok(byte)
     }
 }

@@ -37,8 +37,8 @@ returns c =
     ∙ (ap (λ a. remembers (k .statuses .now) (c .bus-bus .result) a (memoryOf k)) (c .act-act .ensures)
     ∙ ap (λ u. remembers (k .statuses .now) u (actOf u (c .args .cycle)) (memoryOf k)) (c .bus-bus .ensures)) in
     let ran : record { reader = held (c .read .last .self); memory = after } ≡ chipStep (k .statuses .now) (chipOf k) (c .args .cycle) =
-      ap (λ r. record { reader = r; memory = after }) (c .read .ensures .holds ∙ ap (λ r. step (held r) (c .args .cycle)) reader)
-      ∙ ap (λ x. record { reader = step (held (k .reader)) (c .args .cycle); memory = x }) same in
+    ap (λ r. record { reader = r; memory = after }) (c .read .ensures .holds ∙ ap (λ r. step (held r) (c .args .cycle)) reader)
+    ∙ ap (λ x. record { reader = step (held (k .reader)) (c .args .cycle); memory = x }) same in
     record {
       chip = ran;
       kept = subst (λ x. Kept (chipOf k) x (c .args .cycle)) (sym ran) (kept (k .statuses .now) (chipOf k) (c .args .cycle));

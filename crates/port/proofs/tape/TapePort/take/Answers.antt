@@ -1,10 +1,11 @@
 use native.Mathlib.Omega.{arith}
-use mathlib.Core.Path.{refl}
-use Rattle.port.proofs.TapeSteps.{tape-step}
+use Rattle.port.specs.Meanings.{gave}
+use Rattle.port.specs.Tapes.{Wrote, oneMore}
+use Rattle.port.proofs.TapeSteps.{tape-wrote, used-wrote}
 use Rattle.port.proofs.tape.TapePort.take.Needs as need
 
 pub returns : need.returns
-returns c = record {
-  steps = tape-step _ _ _ (omega arith);
-  writes = (c .reply-byte .ensures, record { places = refl; next = refl; replies = refl; used = c .saturating-add-self .ensures });
-}
+returns c =
+    let wrote : Wrote (c .args .self .now) (c .write .last .self) (gave (c .take-reply-byte .result)) (oneMore (c .args .self .now .used)) =
+    used-wrote (c .take-reply-byte .ensures .kept) (c .write .ensures) in
+    record { steps = tape-wrote wrote (omega arith); writes = (c .take-reply-byte .ensures .reply, wrote) }

@@ -21,7 +21,7 @@ use Rattle.bus.specs.declared.act.Act.the-variants as act
 use Rattle.bus.specs.declared.state.BusState.{BusState}
 use Rattle.chip.specs.Cells.{cellAt, cellOf, among, altered, blanked, anded, blankPage, blockErased, rowProgrammed}
 use Rattle.chip.specs.Chips.{Chip, chipStep, cellsAfter, pageAfter}
-use Rattle.chip.specs.Kept.{Kept, Programmed, Erased, broken, confirms}
+use Rattle.chip.specs.Kept.{Kept, Programmed, Erased, broken, confirms, fillsPage}
 use Rattle.chip.proofs.Alterations.{row-cell}
 
 -- what an alteration makes of one cell
@@ -70,6 +70,9 @@ is-misplaced r a page cells h = grind arith
 no-confirm : (u : BusState) (c : Cycle) (page cells : List ℕ) → confirms c ≡ false → cellsAfter (actOf u c) page cells ≡ cells
 no-confirm u c page cells h = grind (arith, tells)
 
+page-waits : (u : BusState) (c : Cycle) (cells page : List ℕ) → fillsPage (u .phase) c ≡ false → pageAfter u (actOf u c) cells page ≡ page
+page-waits u c cells page h = grind (arith, tells)
+
 pub kept : (statuses : List ℕ) (k : Chip) (c : Cycle) → Kept k (chipStep statuses k c) c
 unfolding chipStep
 kept statuses k c = record {
@@ -78,6 +81,7 @@ kept statuses k c = record {
   others = no-confirm (k .reader .bus) c (k .memory .page) (k .memory .cells);
   programs = λ w s f e. rw e (programmed (k .memory .cells) (k .memory .page) (w .number));
   erases = λ w e. rw e (erased (k .memory .cells) (blockOf w));
+  waits = page-waits (k .reader .bus) c (k .memory .cells) (k .memory .page);
   begins = λ g e. rw e refl;
   loads = λ w s n b e. rw e refl;
   copies = λ w s b e r i j h. rw (e, r, i) (row-cell (2112 * w .number) (k .memory .cells) j 0 h);

@@ -19,6 +19,7 @@ use Rattle.bus.specs.declared.act.Act.the-variants as act
 use Rattle.bus.specs.declared.act.Confirm.{Confirm}
 use Rattle.bus.specs.declared.breach.Breaches.{Breaches}
 use Rattle.bus.specs.declared.state.Busy.the-variants as busy
+use Rattle.bus.specs.declared.state.Phase.{Phase}
 use Rattle.bus.specs.declared.state.Phase.the-variants as phase
 use Rattle.bus.specs.declared.state.Register.{Register}
 use Rattle.bus.specs.declared.state.Setup.the-variants as setup
@@ -31,6 +32,21 @@ broken k c = breachesOf (k .reader) (actOf (k .reader .bus) c)
 -- the confirms that may change cells: D0h, 10h, 15h
 abbrev pub confirms : Cycle → Bool
 confirms c = elim (c .kind) [ Command ↦ eqb (c .byte) 0xD0 || (eqb (c .byte) 0x10 || eqb (c .byte) 0x15) | Address ↦ false | DataIn ↦ false | DataOut ↦ false ]
+
+-- the cycles that may change the page buffer: 80h, a byte in, a status byte
+abbrev pub isStatus : Phase → Bool
+isStatus phase.Quiet = false
+isStatus phase.Status = true
+isStatus phase.Output = false
+isStatus phase.Identity = false
+isStatus (phase.IdentityBytes g) = false
+isStatus phase.ReadSetup = false
+isStatus (phase.Addressing s g) = false
+isStatus (phase.Addressed s c w) = false
+isStatus (phase.Loading w s n) = false
+
+abbrev pub fillsPage : Phase → Cycle → Bool
+fillsPage p c = elim (c .kind) [ Command ↦ eqb (c .byte) 0x80 | Address ↦ false | DataIn ↦ true | DataOut ↦ isStatus p ]
 
 -- a program of a row: each cell of it that there is memory for is ANDed with the byte that waits in
 -- its column, and no cell elsewhere changes
@@ -52,7 +68,9 @@ pub record Kept (k l : Chip) (c : Cycle) : Type 0 where
   pub programs : (w : Row) (s : Column) (f : Confirm) → actOf (k .reader .bus) c ≡ act.Program w s f
       → Programmed (k .memory .cells) (k .memory .page) (l .memory .cells) (w .number)
   pub erases : (w : Row) → actOf (k .reader .bus) c ≡ act.Erase w → Erased (k .memory .cells) (l .memory .cells) (blockOf w)
-  -- what waits for the confirm: FFh from 80h on, then each byte in its column; or the page of a copy read that ends
+  -- what waits for the confirm stays until then; it is FFh from 80h on, then each byte in its column; or the
+  -- page of a copy read that ends
+  pub waits : fillsPage (k .reader .bus .phase) c ≡ false → l .memory .page ≡ k .memory .page
   pub begins : (g : Register) → actOf (k .reader .bus) c ≡ act.Prepare (phase.Addressing setup.Program nothingGiven) g → l .memory .page ≡ blankPage
   pub loads : (w : Row) (s n : Column) (b : ℕ) → actOf (k .reader .bus) c ≡ act.Load w s n b → l .memory .page ≡ set (k .memory .page) (n .number) b
   pub copies : (w : Row) (s : Column) (b : ℕ) → actOf (k .reader .bus) c ≡ act.Status b → ready b ≡ true → k .reader .bus .busy ≡ busy.Read w s true

@@ -1,8 +1,7 @@
 // What an act does: to the bus, and to the record of the one block that it concerns.
 ghost use mathlib.Core.Path.{_≡_};
-ghost use Prim.Native.Nat.{_+_, min};
-ghost use Rattle.bus.specs.Breaches.{judged};
-ghost use Rattle.bus.specs.Bus.{ended, partAfter, confirmed, moved, counted, workDone, concerns, workEnded, changed};
+ghost use Rattle.bus.specs.Breaches.{howMany, judged};
+ghost use Rattle.bus.specs.Bus.{ended, confirmed, moved, counted, workDone, concerns, workEnded, changed};
 use crate::act::Act;
 use crate::act::Confirm;
 use crate::breach::Breaches;
@@ -135,7 +134,7 @@ impl BusState {
 
     /// Breaches are counted up to 65,535.
     pub(crate) fn count(&mut self, breaches: Breaches)
-        ensures { λ _. ⌜ now (self .exit) ≡ counted (now (self .entry)) (Rattle.bus.specs.Breaches.howMany breaches) ⌝ }
+        ensures { λ _. ⌜ now (self .exit) ≡ counted (now (self .entry)) (howMany breaches) ⌝ }
     {
         self.breaches = self.breaches.saturating_add(breaches.count());
     }

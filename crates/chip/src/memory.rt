@@ -1,7 +1,7 @@
 // What each act does to the memory of a model chip.
 ghost use mathlib.Core.Path.{_≡_};
 ghost use Rattle.chip.specs.Cells.{blankPage};
-ghost use Rattle.chip.specs.Chips.{beginsProgram, copiedPage, newPage, loadedBy, cellsAfter, statusAfter};
+ghost use Rattle.chip.specs.Chips.{beginsProgram, loaded, copiedPage, newPage, loadedBy, cellsAfter, statusOf, statusAfter};
 use crate::cells::PAGE;
 use crate::cells::erase_block;
 use crate::cells::program_row;
@@ -30,7 +30,7 @@ fn begins_program(phase: Phase) -> bool
 }
 
 fn load(page: &mut [u8; PAGE], column: Column, byte: u8)
-    ensures { λ _. ⌜ now (page .exit) ≡ Rattle.chip.specs.Chips.loaded (now (page .entry)) column byte ⌝ }
+    ensures { λ _. ⌜ now (page .exit) ≡ loaded (now (page .entry)) column byte ⌝ }
 {
     let at = column.number() as usize;
     if at < PAGE {
@@ -90,7 +90,7 @@ pub(crate) fn change_cells(cells: &mut [u8], page: &[u8; PAGE], act: Act)
 }
 
 fn status_of(statuses: &[u8], block: u32) -> u8
-    ensures { λ r. ⌜ r ≡ Rattle.chip.specs.Chips.statusOf (now (statuses .entry)) block ⌝ }
+    ensures { λ r. ⌜ r ≡ statusOf (now (statuses .entry)) block ⌝ }
 {
     if (block as usize) < statuses.len() {
         statuses[block as usize]

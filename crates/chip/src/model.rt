@@ -5,7 +5,7 @@ ghost use mathlib.Core.Path.{_≡_};
 ghost use Rattle.bus.specs.Bus.{step as busStep};
 ghost use Rattle.bus.specs.Readers.{held, meant};
 ghost use Rattle.bus.specs.States.{blocksIn};
-ghost use Rattle.chip.specs.Chips.{answer, cellsAfter, chipStep, newPage, pageAfter};
+ghost use Rattle.chip.specs.Chips.{answer, registerByte, identityByte, cellsAfter, chipStep, newPage, pageAfter};
 ghost use Rattle.chip.specs.Kept.{Kept, Programs-kept};
 ghost use Rattle.chip.specs.Models.{memoryOf, chipOf, roomOf, hasRoom, meansOf, unmoved, Ran, Rests, firstChip};
 ghost use Rattle.port.specs.Meanings.{Fresh, Stepped, Refused, driven, gave};
@@ -49,7 +49,7 @@ pub struct ModelChip<'a> {
 }
 
 fn register_byte(register: Register, cells: &[u8]) -> u8
-    ensures { λ r. ⌜ r ≡ Rattle.chip.specs.Chips.registerByte register (now (cells .entry)) ⌝ }
+    ensures { λ r. ⌜ r ≡ registerByte register (now (cells .entry)) ⌝ }
 {
     match register {
         Register::Full { row, column, .. } if column.is_in_page() => cell(
@@ -61,7 +61,7 @@ fn register_byte(register: Register, cells: &[u8]) -> u8
 }
 
 fn identity_byte(part: Part, count: u8) -> u8
-    ensures { λ r. ⌜ r ≡ Rattle.chip.specs.Chips.identityByte part count ⌝ }
+    ensures { λ r. ⌜ r ≡ identityByte part count ⌝ }
 {
     let identity = part.identity();
     if count < 5 {

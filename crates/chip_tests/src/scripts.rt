@@ -32,7 +32,7 @@ fn feed(log: &mut LogReader, byte: u8, cycles: &mut Vec<Cycle>) -> Result<(), Fa
     }
 }
 
-pub fn cycles_of(heap: Global, script: &str) -> Result<Vec<Cycle>, Fail> {
+pub(crate) fn cycles_of(heap: Global, script: &str) -> Result<Vec<Cycle>, Fail> {
     let mut log = LogReader::new();
     let mut cycles = Vec::new(heap);
     for word in script.split(' ') {
@@ -45,7 +45,7 @@ pub fn cycles_of(heap: Global, script: &str) -> Result<Vec<Cycle>, Fail> {
     Ok(cycles)
 }
 
-pub fn put<P: Port>(port: &mut P, kind: HostKind, byte: u8) -> Result<(), Fail> {
+pub(crate) fn put<P: Port>(port: &mut P, kind: HostKind, byte: u8) -> Result<(), Fail> {
     match port.put(HostCycle { kind, byte }) {
         Ok(()) => Ok(()),
         Err(_) => Err(Fail::new("the port has no room")),
@@ -60,7 +60,7 @@ fn expect<P: Port>(port: &mut P, byte: u8, script: &str) -> Result<(), Fail> {
 }
 
 /// Runs a script on a port.
-pub fn run<P: Port>(heap: Global, port: &mut P, script: &str) -> Result<(), Fail> {
+pub(crate) fn run<P: Port>(heap: Global, port: &mut P, script: &str) -> Result<(), Fail> {
     let cycles = cycles_of(heap, script)?;
     for cycle in cycles.iter() {
         match cycle.kind {

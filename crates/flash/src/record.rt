@@ -1,6 +1,6 @@
 // What is known of one block, how work on it changes that, and whether work on it is allowed.
 ghost use mathlib.Core.Path.{_≡_};
-ghost use Rattle.flash.specs.Records.{firstRecord, fit, outOfOrder, programmedOut, stale, programmed, programEnded, eraseEnded, markRead};
+ghost use Rattle.flash.specs.Records.{clean, fit, outOfOrder, programmedOut, pagesAfter, stale, programmed, programEnded, eraseEnded, readAs, markRead};
 use crate::status::Verdict;
 
 /// A factory mark: not yet read, read as FFh, or read as anything else.
@@ -30,7 +30,7 @@ pub struct BlockRecord {
 }
 
 fn is_clean(mark: Mark) -> bool
-    ensures { λ r. ⌜ r ≡ Rattle.flash.specs.Records.clean mark ⌝ }
+    ensures { λ r. ⌜ r ≡ clean mark ⌝ }
 {
     match mark {
         Mark::Clean => true,
@@ -39,7 +39,7 @@ fn is_clean(mark: Mark) -> bool
 }
 
 fn read_mark(mark: Mark, byte: u8) -> Mark
-    ensures { λ r. ⌜ r ≡ Rattle.flash.specs.Records.readAs mark byte ⌝ }
+    ensures { λ r. ⌜ r ≡ readAs mark byte ⌝ }
 {
     match mark {
         Mark::Unread => if byte == 0xFF {
@@ -74,7 +74,7 @@ impl Pages {
     }
 
     fn after(self, allowed: u8, page: u8) -> Pages
-        ensures { λ r. ⌜ r ≡ Rattle.flash.specs.Records.pagesAfter allowed self page ⌝ }
+        ensures { λ r. ⌜ r ≡ pagesAfter allowed self page ⌝ }
     {
         match self {
             Pages::Stale => Pages::Stale,

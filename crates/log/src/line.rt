@@ -2,7 +2,7 @@
 ghost use mathlib.Core.Path.{_≡_};
 ghost use Prim.Native.Nat.{_<_};
 ghost use Rattle.log.specs.Logs.{digitOf, hexDigit, lineFor, Reads-back};
-ghost use Rattle.log.specs.Lines.{isSpace, kindOf, hexOf, feed, finish};
+ghost use Rattle.log.specs.Lines.{isSpace, kindOf, hexOf, begin, firstDigit, secondDigit, feed, finish};
 use flash::cycle::Cycle;
 use flash::cycle::Kind;
 
@@ -62,7 +62,7 @@ fn hex_of(byte: u8) -> Option<u8>
 
 impl Scan {
     fn begin(byte: u8) -> Scan
-        ensures { λ r. ⌜ r ≡ Rattle.log.specs.Lines.begin byte ⌝ }
+        ensures { λ r. ⌜ r ≡ begin byte ⌝ }
     {
         if is_space(byte) {
             return Scan::Blank;
@@ -77,7 +77,7 @@ impl Scan {
     }
 
     fn first_digit(kind: Kind, byte: u8) -> Scan
-        ensures { λ r. ⌜ r ≡ Rattle.log.specs.Lines.firstDigit kind (hexOf byte) ⌝ }
+        ensures { λ r. ⌜ r ≡ firstDigit kind (hexOf byte) ⌝ }
     {
         match hex_of(byte) {
             Some(high) => Scan::High { kind, high },
@@ -86,7 +86,7 @@ impl Scan {
     }
 
     fn second_digit(kind: Kind, high: u8, byte: u8) -> Scan
-        ensures { λ r. ⌜ r ≡ Rattle.log.specs.Lines.secondDigit kind high (hexOf byte) ⌝ }
+        ensures { λ r. ⌜ r ≡ secondDigit kind high (hexOf byte) ⌝ }
     {
         match hex_of(byte) {
             Some(low) => Scan::Whole {

@@ -4,7 +4,9 @@ ghost use mathlib.Core.List.{List};
 ghost use mathlib.Core.Path.{_≡_};
 ghost use Rattle.std.specs.Results.{Cases};
 ghost use Rattle.flash.specs.declared.cycle.Cycle.{Cycle as TheCycle};
-ghost use Rattle.port.specs.Meanings.{Meaning, Stepped, Refused, driven, gave};
+ghost use Rattle.port.specs.Meanings.{Meaning, Stepped, Refused, hostKind, driven, gave};
+use flash::cycle::Cycle;
+use flash::cycle::Kind;
 
 /// The kinds of cycle that the host makes; only a take makes a byte out.
 #[derive(Clone, Copy)]
@@ -19,6 +21,31 @@ pub enum HostKind {
 pub struct HostCycle {
     pub kind: HostKind,
     pub byte: u8,
+}
+
+impl HostKind {
+    /// The kind of the cycle on the bus.
+    pub fn kind(self) -> Kind
+        ensures { λ r. ⌜ r ≡ hostKind self ⌝ }
+    {
+        match self {
+            HostKind::Command => Kind::Command,
+            HostKind::Address => Kind::Address,
+            HostKind::DataIn => Kind::DataIn,
+        }
+    }
+}
+
+impl HostCycle {
+    /// The cycle on the bus.
+    pub fn cycle(self) -> Cycle
+        ensures { λ r. ⌜ r ≡ driven self ⌝ }
+    {
+        Cycle {
+            kind: self.kind.kind(),
+            byte: self.byte,
+        }
+    }
 }
 
 /// The port has no room for another cycle.

@@ -10,7 +10,6 @@ ghost use Rattle.port.specs.Meanings.{Stepped, Refused, driven, gave};
 ghost use Rattle.port.specs.Tapes.{taped, appended, writtenOn, nextReply, Wrote, Kept, Used, oneMore};
 use crate::port::Full;
 use crate::port::HostCycle;
-use crate::port::HostKind;
 use crate::port::Port;
 use flash::cycle::Cycle;
 use flash::cycle::Kind;
@@ -23,31 +22,6 @@ pub struct Tape<'a> {
     next: usize,
     replies: &'a [u8],
     used: usize,
-}
-
-impl HostKind {
-    /// The kind of the cycle on the bus.
-    pub fn kind(self) -> Kind
-        ensures { λ r. ⌜ r ≡ Rattle.port.specs.Meanings.hostKind self ⌝ }
-    {
-        match self {
-            HostKind::Command => Kind::Command,
-            HostKind::Address => Kind::Address,
-            HostKind::DataIn => Kind::DataIn,
-        }
-    }
-}
-
-impl HostCycle {
-    /// The cycle on the bus.
-    pub fn cycle(self) -> Cycle
-        ensures { λ r. ⌜ r ≡ driven self ⌝ }
-    {
-        Cycle {
-            kind: self.kind.kind(),
-            byte: self.byte,
-        }
-    }
 }
 
 impl<'a> Tape<'a> {

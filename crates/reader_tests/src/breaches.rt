@@ -84,7 +84,7 @@ const TOO_MANY_PROGRAMS: [&str; 12] = [
     "one fresh page5 page5 page5 load5 015 ready load5 015: unfit block, page order, too many programs",
 ];
 
-pub fn check_last(heap: Global, log: &str, expected: &str) -> Result<(), Fail> {
+pub(crate) fn check_last(heap: Global, log: &str, expected: &str) -> Result<(), Fail> {
     let mut cycles = cycles_of(heap, log)?;
     let last = cycles.pop().ok_or("an empty log")?;
     let step = Step::after(cycles.as_slice(), last);
@@ -92,7 +92,7 @@ pub fn check_last(heap: Global, log: &str, expected: &str) -> Result<(), Fail> {
     check_eq(shown::broken(heap, step.breaches)?.as_str(), expected).note(log)
 }
 
-pub fn check_rows(heap: Global, rows: &[&str]) -> Result<(), Fail> {
+pub(crate) fn check_rows(heap: Global, rows: &[&str]) -> Result<(), Fail> {
     for row in rows {
         let (log, expected) = columns(row)?;
         check_last(heap, log, expected)?;

@@ -45,7 +45,7 @@ fn feed(log: &mut LogReader, byte: u8, cycles: &mut Vec<Cycle>) -> Result<(), Fa
     }
 }
 
-pub fn cycles_of(heap: Global, text: &str) -> Result<Vec<Cycle>, Fail> {
+pub(crate) fn cycles_of(heap: Global, text: &str) -> Result<Vec<Cycle>, Fail> {
     let mut log = LogReader::new();
     let mut cycles = Vec::new(heap);
     for word in text.split(' ') {
@@ -59,6 +59,6 @@ pub fn cycles_of(heap: Global, text: &str) -> Result<Vec<Cycle>, Fail> {
 }
 
 /// The two columns of a table's row: a log, and what is expected of it.
-pub fn columns(row: &str) -> Result<(&str, &str), Fail> {
+pub(crate) fn columns(row: &str) -> Result<(&str, &str), Fail> {
     Ok(row.split_once(": ").ok_or("a row of one column")?)
 }

@@ -48,7 +48,7 @@ const NO_MARKS: [&str; 4] = [
 ];
 
 /// What is held after a log, a byte out and another log.
-pub fn held_with(heap: Global, log: &str, byte: u8, later: &str) -> Result<Held, Fail> {
+pub(crate) fn held_with(heap: Global, log: &str, byte: u8, later: &str) -> Result<Held, Fail> {
     let mut cycles = cycles_of(heap, log)?;
     cycles.push(Cycle {
         kind: Kind::DataOut,

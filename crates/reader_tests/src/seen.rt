@@ -35,14 +35,14 @@ impl Held {
         }
     }
 
-    pub fn after(cycles: &[Cycle], block: u32) -> Held {
+    pub(crate) fn after(cycles: &[Cycle], block: u32) -> Held {
         let mut blocks = [USED; MOST_BLOCKS];
         let mut reader = BusReader::new(&mut blocks);
         reader.read_all(cycles);
         Held::by(&reader, block)
     }
 
-    pub fn check_block(&self, heap: Global, expected: &str) -> Result<(), Fail> {
+    pub(crate) fn check_block(&self, heap: Global, expected: &str) -> Result<(), Fail> {
         check_eq(shown::block(heap, self.block)?.as_str(), expected)
     }
 
@@ -80,7 +80,7 @@ pub struct Step {
 }
 
 impl Step {
-    pub fn after(cycles: &[Cycle], cycle: Cycle) -> Step {
+    pub(crate) fn after(cycles: &[Cycle], cycle: Cycle) -> Step {
         let mut blocks = [USED; MOST_BLOCKS];
         let mut reader = BusReader::new(&mut blocks);
         reader.read_all(cycles);
@@ -95,7 +95,7 @@ impl Step {
     }
 
     /// The breaches are counted, and a cycle that is not taken changes nothing else.
-    pub fn check(&self, heap: Global) -> Result<(), Fail> {
+    pub(crate) fn check(&self, heap: Global) -> Result<(), Fail> {
         let breaches = self.breaches;
         if breaches.while_busy || breaches.out_of_place {
             self.after.check_same(heap, &self.before)?;

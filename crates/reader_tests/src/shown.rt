@@ -12,7 +12,7 @@ use flash::record::Pages;
 use std::alloc::AllocError;
 use std::alloc::Global;
 
-pub fn broken(heap: Global, breaches: Breaches) -> Result<String, AllocError> {
+pub(crate) fn broken(heap: Global, breaches: Breaches) -> Result<String, AllocError> {
     let mut text = String::new(heap);
     let rules = [
         (breaches.while_busy, "while busy"),
@@ -51,7 +51,7 @@ fn pages(heap: Global, pages: Pages) -> Result<String, AllocError> {
     }
 }
 
-pub fn block(heap: Global, block: BlockRecord) -> Result<String, AllocError> {
+pub(crate) fn block(heap: Global, block: BlockRecord) -> Result<String, AllocError> {
     let mark0 = mark(block.mark0);
     let mark1 = mark(block.mark1);
     let failed = if block.failed { " failed" } else { "" };
@@ -59,7 +59,7 @@ pub fn block(heap: Global, block: BlockRecord) -> Result<String, AllocError> {
     format!(heap, "{mark0} {mark1}{failed} {pages}")
 }
 
-pub fn part(part: Option<Part>) -> &'static str {
+pub(crate) fn part(part: Option<Part>) -> &'static str {
     match part {
         None => "unknown",
         Some(Part::OneGbit) => "1 Gbit",
@@ -67,14 +67,14 @@ pub fn part(part: Option<Part>) -> &'static str {
     }
 }
 
-pub fn place(heap: Global, row: Row, column: Column) -> Result<String, AllocError> {
+pub(crate) fn place(heap: Global, row: Row, column: Column) -> Result<String, AllocError> {
     let block = row.block();
     let page = row.page();
     let column = column.number();
     format!(heap, "block {block} page {page} column {column}")
 }
 
-pub fn register(heap: Global, register: Register) -> Result<String, AllocError> {
+pub(crate) fn register(heap: Global, register: Register) -> Result<String, AllocError> {
     match register {
         Register::Empty => format!(heap, "empty"),
         Register::Full { row, column, copy } => {
@@ -86,7 +86,7 @@ pub fn register(heap: Global, register: Register) -> Result<String, AllocError> 
 }
 
 /// What is busy, and the chain.
-pub fn work(heap: Global, bus: &BusState) -> Result<String, AllocError> {
+pub(crate) fn work(heap: Global, bus: &BusState) -> Result<String, AllocError> {
     let chain = match bus.chain {
         Some(block) => format!(heap, " in a chain of block {block}")?,
         None => String::new(heap),

@@ -50,7 +50,7 @@ fn phase(heap: Global, phase: Phase) -> Result<String, AllocError> {
     }
 }
 
-pub fn bus_text(heap: Global, bus: &BusState) -> Result<String, AllocError> {
+pub(crate) fn bus_text(heap: Global, bus: &BusState) -> Result<String, AllocError> {
     let part = shown::part(bus.part);
     let phase = phase(heap, bus.phase)?;
     let work = shown::work(heap, bus)?;

@@ -3,6 +3,8 @@
 // `-`, or no argument, is standard input.
 mod judging;
 mod report;
+#[cfg(test)]
+mod tests;
 
 use events::teller::Teller;
 use flash::geometry::MOST_BLOCKS;

@@ -23,6 +23,8 @@ abbrev pub altered : (ℕ → ℕ → ℕ) → ℕ → List ℕ → List ℕ
 altered f i [] = []
 altered f i (x ∷ xs) = f i x ∷ altered f (i + 1) xs
 
+-- a block has 64 rows of 2,112 cells, 135,168 in all
+
 -- an erase of the first n cells of those from base on, and a program of them with the bytes of a page
 abbrev pub blanked : ℕ → ℕ → ℕ → ℕ → ℕ
 blanked base n i x = cond (among base n i) 0xFF x

@@ -1,7 +1,7 @@
 -- What one cycle may do to the memory of a chip: `k` is the chip before the cycle `c`, `l` after it.
 use Prim.Native.Nat.{ℕ, _+_, _*_, _<_, _≤_}
 use mathlib.Core.Path.{_≡_}
-use mathlib.Core.Bool.{Bool, true, false, _||_}
+use mathlib.Core.Bool.{Bool, true, false, _||_, _&&_}
 use mathlib.Core.List.{List, [], _∷_, _++_, map}
 use lib.Bits.{bitAnd}
 use lib.Dec.{eqb}
@@ -15,9 +15,11 @@ use Rattle.flash.specs.declared.cycle.Kind.the-variants.{Command, Address, Data
 use Rattle.bus.specs.Acts.{actOf}
 use Rattle.bus.specs.Bus.{breachesOf}
 use Rattle.bus.specs.States.{nothingGiven}
+use Rattle.bus.specs.declared.act.Act.{Act}
 use Rattle.bus.specs.declared.act.Act.the-variants as act
 use Rattle.bus.specs.declared.act.Confirm.{Confirm}
 use Rattle.bus.specs.declared.breach.Breaches.{Breaches}
+use Rattle.bus.specs.declared.state.Busy.{Busy}
 use Rattle.bus.specs.declared.state.Busy.the-variants as busy
 use Rattle.bus.specs.declared.state.Phase.{Phase}
 use Rattle.bus.specs.declared.state.Phase.the-variants as phase
@@ -48,6 +50,29 @@ isStatus (phase.Loading w s n) = false
 abbrev pub fillsPage : Phase → Cycle → Bool
 fillsPage p c = elim (c .kind) [ Command ↦ eqb (c .byte) 0x80 | Address ↦ false | DataIn ↦ true | DataOut ↦ isStatus p ]
 
+-- a copy read is busy
+abbrev pub copies : Busy → Bool
+copies busy.Nothing = false
+copies busy.Reset = false
+copies (busy.Read w c f) = f
+copies busy.CachePage = false
+copies (busy.Program b) = false
+copies (busy.Erase b) = false
+
+-- an act that works on cells
+abbrev pub works : Act → Bool
+works act.WhileBusy = false
+works act.OutOfPlace = false
+works act.Reset = false
+works (act.Prepare p g) = false
+works (act.Status b) = false
+works (act.Identify bs) = false
+works (act.Read w c f) = false
+works (act.Data w c b) = false
+works (act.Erase w) = true
+works (act.Load w s c b) = false
+works (act.Program w c f) = true
+
 -- a program of a row: each cell of it that there is memory for is ANDed with the byte that waits in
 -- its column, and no cell elsewhere changes
 pub record Programmed (before page after : List ℕ) (row : ℕ) : Type 0 where
@@ -60,20 +85,22 @@ pub record Erased (before after : List ℕ) (block : ℕ) : Type 0 where
   pub elsewhere : (i : ℕ) → among (135168 * block) 135168 i ≡ false → cellAt after i ≡ cellAt before i
 
 pub record Kept (k l : Chip) (c : Cycle) : Type 0 where
-  -- a cycle that is while busy or out of place changes no cell, nor does any but a confirm
-  pub whileBusy : broken k c .«while_busy» ≡ true → l .memory .cells ≡ k .memory .cells
-  pub outOfPlace : broken k c .«out_of_place» ≡ true → l .memory .cells ≡ k .memory .cells
+  -- a cycle that is while busy or out of place changes nothing of the memory, and no cycle but a confirm a cell
+  pub whileBusy : broken k c .«while_busy» ≡ true → l .memory ≡ k .memory
+  pub outOfPlace : broken k c .«out_of_place» ≡ true → l .memory ≡ k .memory
   pub others : confirms c ≡ false → l .memory .cells ≡ k .memory .cells
-  -- a confirm that is taken, also one that breaks another rule
+  -- a confirm that breaks neither of these rules programs a row or erases a block, also where it breaks another
+  pub taken : confirms c ≡ true → broken k c .«while_busy» ≡ false → broken k c .«out_of_place» ≡ false → works (actOf (k .reader .bus) c) ≡ true
   pub programs : (w : Row) (s : Column) (f : Confirm) → actOf (k .reader .bus) c ≡ act.Program w s f
       → Programmed (k .memory .cells) (k .memory .page) (l .memory .cells) (w .number)
   pub erases : (w : Row) → actOf (k .reader .bus) c ≡ act.Erase w → Erased (k .memory .cells) (l .memory .cells) (blockOf w)
   -- what waits for the confirm stays until then; it is FFh from 80h on, then each byte in its column; or the
   -- page of a copy read that ends
   pub waits : fillsPage (k .reader .bus .phase) c ≡ false → l .memory .page ≡ k .memory .page
+  pub rests : (b : ℕ) → actOf (k .reader .bus) c ≡ act.Status b → (ready b && copies (k .reader .bus .busy)) ≡ false → l .memory .page ≡ k .memory .page
   pub begins : (g : Register) → actOf (k .reader .bus) c ≡ act.Prepare (phase.Addressing setup.Program nothingGiven) g → l .memory .page ≡ blankPage
   pub loads : (w : Row) (s n : Column) (b : ℕ) → actOf (k .reader .bus) c ≡ act.Load w s n b → l .memory .page ≡ set (k .memory .page) (n .number) b
-  pub copies : (w : Row) (s : Column) (b : ℕ) → actOf (k .reader .bus) c ≡ act.Status b → ready b ≡ true → k .reader .bus .busy ≡ busy.Read w s true
+  pub copied : (w : Row) (s : Column) (b : ℕ) → actOf (k .reader .bus) c ≡ act.Status b → ready b ≡ true → k .reader .bus .busy ≡ busy.Read w s true
       → (j : ℕ) → j < 2112 → getD (l .memory .page) j 0 ≡ cellAt (k .memory .cells) (cellOf (w .number) j)
 
 -- the cycles that give these bytes to program, and the confirm that ends them
@@ -94,3 +121,8 @@ Programs-kept = (statuses : List ℕ) (k : Chip) (w : Row) (s : Column) (bs : Li
     → k .reader .bus .phase ≡ phase.Addressed setup.Program s w → k .reader .bus .busy ≡ busy.Nothing → k .memory .page ≡ blankPage
     → 0 < length bs → s .number + length bs ≤ 2112
     → Held-after (k .memory .cells) (chipSteps statuses k (given bs confirm) .memory .cells) (w .number) (s .number) bs
+
+-- a byte of the register that the chip gives is the cell at its row and column
+abbrev pub Read-out : Chip → ℕ → Type 0
+Read-out k b = (w : Row) (s : Column) (d : ℕ) → actOf (k .reader .bus) (record { kind = DataOut; byte = b }) ≡ act.Data w s d
+    → b ≡ cellAt (k .memory .cells) (cellOf (w .number) (s .number))

@@ -1,4 +1,4 @@
-// A model of a NAND chip: a port with cells of its own.
+// A model of a NAND chip: a port over cells that its owner lends.
 mod cells;
 mod memory;
 pub mod model;

@@ -6,7 +6,7 @@ ghost use Rattle.bus.specs.Bus.{step as busStep};
 ghost use Rattle.bus.specs.Readers.{held, meant};
 ghost use Rattle.bus.specs.States.{blocksIn};
 ghost use Rattle.chip.specs.Chips.{answer, registerByte, identityByte, cellsAfter, chipStep, newPage, pageAfter};
-ghost use Rattle.chip.specs.Kept.{Kept, Programs-kept};
+ghost use Rattle.chip.specs.Kept.{Kept, Programs-kept, Read-out};
 ghost use Rattle.chip.specs.Models.{memoryOf, chipOf, roomOf, hasRoom, meansOf, unmoved, Ran, Rests, firstChip};
 ghost use Rattle.port.specs.Meanings.{Fresh, Stepped, Refused, driven, gave};
 ghost use Rattle.flash.specs.Parts.{blocksOf};
@@ -170,7 +170,7 @@ pub impl Port for ModelChip<'_> as ModelChipPort {
 
     fn take(&mut self) -> Result<u8, Full>
         ensures steps { λ r. ⌜ Cases r (λ b. Stepped unmoved (gave b) (meansOf (now (self .entry))) (meansOf (now (self .exit)))) (λ _. Refused (meansOf (now (self .entry))) (meansOf (now (self .exit)))) ⌝ }
-        ensures runs { λ r. ⌜ Cases r (λ b. (b ≡ answer (now (self .entry) .part) (now (self .entry) .reader .bus) (memoryOf (now (self .entry)))) × Ran (now (self .entry)) (now (self .exit)) (gave b)) (λ _. Rests (now (self .entry)) (now (self .exit))) ⌝ }
+        ensures runs { λ r. ⌜ Cases r (λ b. (b ≡ answer (now (self .entry) .part) (now (self .entry) .reader .bus) (memoryOf (now (self .entry)))) × Read-out (chipOf (now (self .entry))) b × Ran (now (self .entry)) (now (self .exit)) (gave b)) (λ _. Rests (now (self .entry)) (now (self .exit))) ⌝ }
     {
         if !self.has_room() {
             return Err(Full);

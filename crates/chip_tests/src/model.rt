@@ -1,4 +1,4 @@
-// The model chip, script by script; each begins on a chip of its own with four rows of cells. Its
+// The model chip, script by script; each begins on a chip of its own with not quite four rows of cells. Its
 // block 0 answers C0h, block 1 C1h, block 2 40h; the list of status bytes has no more.
 use crate::scripts::run;
 use chip::model::ModelChip;
@@ -9,17 +9,18 @@ use port::port::Port;
 use std::alloc::Global;
 use std::test::*;
 
-const ROWS: usize = 4;
+// Rows 0 to 2, and 1,000 bytes of row 3.
+const CELLS: usize = 3 * 2112 + 1000;
 
 fn run_on(heap: Global, part: Part, script: &str) -> Result<(), Fail> {
-    let mut cells = [0xFFu8; ROWS * 2112];
+    let mut cells = [0xFFu8; CELLS];
     let statuses = [0xC0, 0xC1, 0x40];
     let mut blocks = [BlockRecord::FIRST; 2048];
     let mut chip = ModelChip::new(part, &mut cells, &statuses, &mut blocks);
     run(heap, &mut chip, script)
 }
 
-const ONE_GBIT: [&str; 12] = [
+const ONE_GBIT: [&str; 14] = [
     // before anything is asked, and after the identity
     "3FF 0FF 3FF ready",
     "one 3FF 070 3C0 3C0",
@@ -39,8 +40,12 @@ const ONE_GBIT: [&str; 12] = [
     // a reset in the middle of the bytes: nothing is programmed, and nothing of them is left
     "one page0 211 222 0FF ready read0 3FF 3FF 080 101 100 100 100 233 010 ready read0 3FF 333 3FF",
     // confirms that are out of place or while busy change no cell
-    "one page0 211 0D0 030 010 ready read0 311 3FF",
-    "one page0 211 010 010 060 ready page1 222 0FF 010 ready read1 3FF",
+    "one page0 200 010 ready page1 211 0D0 030 010 ready read0 300 3FF read1 311 3FF",
+    "one page0 200 010 060 100 100 0D0 010 ready read0 300 3FF page1 222 0FF 010 ready read1 3FF",
+    // the last column is copied too
+    "one 080 13F 108 100 100 277 010 ready 000 100 100 100 100 035 ready 085 100 100 101 100 010 ready 000 13F 108 101 100 030 ready 000 377 3FF",
+    // the memory ends in the middle of row 3
+    "one 080 1E7 103 103 100 211 222 010 ready 000 1E7 103 103 100 030 ready 000 311 3FF",
 ];
 
 #[test]

@@ -58,6 +58,6 @@ pub told-all : {t u : Telling} {x y : List Event} (cs : List Cycle) (i : ℕ) �
 told-all cs i h p = rw (take-all i cs h) at p
 
 -- a front of the list was told, and then nothing
-pub told-stopped : {t u v : Telling} {x y z : List Event} (cs : List Cycle) (i : ℕ)
+pub told-stopped : {t u v : Telling} {x y z : List Event} (cs : List Cycle) (i : ℕ) → i < length cs
     → Tellers.Told t u (take i cs) x y → Tellers.Told u v [] y z → Tellers.Told-front t v cs x z
-told-stopped {t} {u} {v} {x} {y} {z} cs i p q = record { count = i; told = rw append-nil at (told-append p q) }
+told-stopped {t} {u} {v} {x} {y} {z} cs i h p q = record { count = i; fewer = h; told = rw append-nil at (told-append p q) }

@@ -1,12 +1,11 @@
 -- What the teller at run time holds and tells.
-use Prim.Native.Nat.{ℕ}
+use Prim.Native.Nat.{ℕ, _<_}
 use mathlib.Core.Path.{_≡_}
 use mathlib.Core.List.{List, [], _∷_, _++_, map}
-use lib.ListN.{take}
+use lib.ListN.{take, length}
 use Rattle.std.specs.Of.Vec.{vec-items}
 use Rattle.std.specs.declared.option.Option.{Option}
 use Rattle.std.specs.declared.option.Option.the-variants.{None, Some}
-use Rattle.flash.specs.Addresses.{blockOf}
 use Rattle.flash.specs.declared.cycle.Cycle.{Cycle}
 use Rattle.bus.specs.Readers.{held}
 use Rattle.events.specs.Events.{Thing, broke, reset, status, identity, read, byte, erase, program, place, Telling, follows, events}
@@ -22,7 +21,7 @@ thing (event.Status b) = status b
 thing (event.Identity bs) = identity bs
 thing (event.Read w c copy) = read copy (place w c)
 thing (event.Data n b) = byte n b
-thing (event.Erase w) = erase (blockOf w)
+thing (event.Erase b) = erase b
 thing (event.Program w c f bs) = program f (place w c) (vec-items bs)
 
 abbrev pub listed : Option Event → List Thing
@@ -41,4 +40,5 @@ pub record Told (t u : Telling) (cs : List Cycle) (before after : List Event) : 
 -- a front of the cycles was read and told
 pub record Told-front (t u : Telling) (cs : List Cycle) (before after : List Event) : Type 0 where
   pub count : ℕ
+  pub fewer : count < length cs
   pub told : Told t u (take count cs) before after

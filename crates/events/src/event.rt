@@ -29,7 +29,7 @@ pub enum Event {
         byte: u8,
     },
     Erase {
-        row: Row,
+        block: u32,
     },
     /// A program with the bytes that were given; a copy has none.
     Program {

@@ -8,7 +8,7 @@ ghost use Rattle.std.specs.Of.Vec.{vec-items, vec-len, vec-cap};
 ghost use Rattle.flash.specs.Records.{firstRecord};
 ghost use Rattle.bus.specs.States.{firstBus};
 ghost use Rattle.bus.specs.Breaches.{named, ifSo};
-ghost use Rattle.events.specs.Events.{broke, happened, handAfter};
+ghost use Rattle.events.specs.Events.{broke, happened, handAfter, begun};
 ghost use Rattle.events.specs.Tellers.{thing, listed, stands, Told, Told-front};
 use crate::event::Event;
 use bus::act::Act;
@@ -76,7 +76,7 @@ fn tell_act(cycle: u64, act: Act, hand: &mut Vec<u8>, heap: Global) -> Option<Ev
         Act::Identify { bytes } => Some(Event::Identity { bytes }),
         Act::Read { row, column, copy } => Some(Event::Read { row, column, copy }),
         Act::Data { byte, .. } => Some(Event::Data { cycle, byte }),
-        Act::Erase { row } => Some(Event::Erase { row }),
+        Act::Erase { row } => Some(Event::Erase { block: row.block() }),
         Act::Load { byte, .. } => {
             hand.push_reserved(byte);
             None
@@ -109,7 +109,8 @@ fn tell_event(events: &mut Vec<Event>, event: Option<Event>)
 impl<'a> Teller<'a> {
     /// A teller whose reader is in its first state; the records lent are set to first ones.
     pub fn new(heap: Global, blocks: &'a mut [BlockRecord]) -> Teller<'a>
-        ensures { λ r. ⌜ stands r ≡ record { reader = record { bus = firstBus; blocks = replicate (length (now (blocks .entry))) firstRecord }; hand = []; cycles = 0 } ⌝ }
+        ensures first { λ r. ⌜ stands r ≡ record { reader = record { bus = firstBus; blocks = replicate (length (now (blocks .entry))) firstRecord }; hand = []; cycles = 0 } ⌝ }
+        ensures begun { λ r. ⌜ (length (now (blocks .entry)) ≡ 2048 → stands r ≡ begun) ⌝ }
     {
         Teller {
             reader: BusReader::new(blocks),

@@ -84,7 +84,7 @@ fn low_byte(number: u32) -> u8
 }
 
 impl Row {
-    /// The row of a page of a block.
+    /// The row of a page of a block; a page above 63 lies in a later block.
     pub fn new(block: u16, page: u8) -> Row
         ensures { λ r. ⌜ r ≡ record { number = 64 * block + page } ⌝ }
     {

@@ -17,26 +17,41 @@ use std::io;
 use std::io::BufWriter;
 use std::io::Read;
 
-fn judge<R: Read>(rt: &LibcRuntime, input: &mut R) -> io::Result<()> {
+fn judge<R: Read>(rt: &LibcRuntime, input: &mut R) -> io::Result<Ending> {
     let mut blocks = [BlockRecord::FIRST; MOST_BLOCKS];
     let teller = Teller::new(rt.alloc(), &mut blocks);
-    let mut judging = Judging::new(rt.alloc(), teller, BufWriter::new(rt.stdout()));
-    if let Ending::NotACycle { line } = judging.run(input)? {
-        eprintln!(rt, "line {line}: not a cycle")?;
-        return Err(io::Error::other("not a cycle"));
+    Judging::new(rt.alloc(), teller, BufWriter::new(rt.stdout())).run(input)
+}
+
+fn judge_input(rt: &LibcRuntime) -> io::Result<()> {
+    match judge(rt, &mut rt.stdin())? {
+        Ending::Whole => Ok(()),
+        Ending::NotACycle { line } => {
+            eprintln!(rt, "line {line}: not a cycle")?;
+            Err(io::Error::other("not a cycle"))
+        }
     }
-    Ok(())
+}
+
+fn judge_file(rt: &LibcRuntime, name: &String, file: &mut File) -> io::Result<()> {
+    match judge(rt, file)? {
+        Ending::Whole => Ok(()),
+        Ending::NotACycle { line } => {
+            eprintln!(rt, "{name}: line {line}: not a cycle")?;
+            Err(io::Error::other("not a cycle"))
+        }
+    }
 }
 
 fn judge_named(rt: &LibcRuntime, name: &String) -> io::Result<()> {
     if name.as_str() == "-" {
         println!(rt, "# {name}")?;
-        return judge(rt, &mut rt.stdin());
+        return judge_input(rt);
     }
     match File::open(rt, name.as_str()) {
         Ok(mut file) => {
             println!(rt, "# {name}")?;
-            judge(rt, &mut file)
+            judge_file(rt, name, &mut file)
         }
         Err(error) => {
             eprintln!(rt, "{name}: {error}")?;
@@ -51,9 +66,5 @@ fn main(rt: LibcRuntime) -> io::Result<()> {
         named = true;
         judge_named(&rt, &name)?;
     }
-    if named {
-        Ok(())
-    } else {
-        judge(&rt, &mut rt.stdin())
-    }
+    if named { Ok(()) } else { judge_input(&rt) }
 }

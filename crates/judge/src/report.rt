@@ -125,7 +125,7 @@ impl<W: Write + Drop> Report<W> {
                 copy: true,
             } => writeln!(self.out, "copy-read {}", Place(*row, *column)),
             Event::Data { .. } => Ok(()),
-            Event::Erase { row } => writeln!(self.out, "erase block {}", row.block()),
+            Event::Erase { block } => writeln!(self.out, "erase block {block}"),
             Event::Program {
                 row,
                 column,

@@ -2,6 +2,7 @@
 use Prim.Native.Nat.{ℕ, zero, suc, _+_, _<_}
 use mathlib.Core.Path.{_≡_, refl, sym, _∙_, ap}
 use mathlib.Core.List.{List, [], _∷_, _++_, foldl-append}
+use native.Mathlib.Omega.{arith}
 use lib.ListN.{length, getD, take, drop}
 use Rattle.std.proofs.shelf.Lists.{take-more, take-append-drop, drop-more}
 use Rattle.std.specs.declared.result.Result.the-variants.{Err}
@@ -29,12 +30,11 @@ module _ (s t u : Reading) (bs : List ℕ) (i : ℕ) (so : reads s (take i bs) �
       ∙ (ap (λ x. reads x (getD bs i 0 ∷ drop (i + 1) bs)) so
       ∙ (ap (λ x. reads x (drop (i + 1) bs)) e ∙ stays-stopped u (drop (i + 1) bs))))
 
-  out-of-memory : (n : ℕ) → reads t (take n (getD bs i 0 ∷ [])) ≡ u → (m : ℕ) × (reads s (take m bs) ≡ u)
-  out-of-memory zero e = (i, so ∙ e)
-  out-of-memory (suc zero) e = (i + 1, reads-more e)
-  out-of-memory (suc (suc n)) e = (i + 1, reads-more e)
+  out-of-memory : (n : ℕ) → n < 1 → reads t (take n (getD bs i 0 ∷ [])) ≡ u → (m : ℕ) × (m < length bs) × (reads s (take m bs) ≡ u)
+  out-of-memory zero l e = (i, h, so ∙ e)
+  out-of-memory (suc n) l e = absurd (omega arith)
 
   -- a reading that ends in an error
   pub ends : (e : LogError) → Went (Err e) t (getD bs i 0 ∷ []) u → Went (Err e) s bs u
   ends (NotACycle n) w = (reads-stop (w .0), w .1)
-  ends Memory w = out-of-memory (w .0) (w .1)
+  ends Memory w = out-of-memory (w .0) (w .1) (w .2)

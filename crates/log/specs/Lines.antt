@@ -1,7 +1,6 @@
 -- One line of a log: the kind digit and two hexadecimal digits, spaces around them aside.
 use Prim.Native.Nat.{ℕ, _+_, _-_, _*_, _%_}
 use mathlib.Core.Bool.{Bool, true, false, cond, _&&_, _||_}
-use mathlib.Core.List.{List, foldl}
 use lib.Dec.{eqb, leb}
 use Rattle.std.specs.declared.option.Option.{Option}
 use Rattle.std.specs.declared.option.Option.the-variants.{None, Some}
@@ -66,7 +65,3 @@ finish (scan.Kind k) = line.Bad
 finish (scan.High k h) = line.Bad
 finish (scan.Whole c) = line.Cycle c
 finish scan.Bad = line.Bad
-
--- what a line is, without its line feed
-abbrev pub lineOf : List ℕ → Line
-lineOf bs = finish (foldl feed scan.Blank bs)

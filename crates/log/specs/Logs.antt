@@ -1,10 +1,10 @@
 -- A log: lines with a line feed after each, and the cycles that they hold.
-use Prim.Native.Nat.{ℕ, _+_, _-_, _/_, _%_, _^_, min}
+use Prim.Native.Nat.{ℕ, _<_, _+_, _-_, _/_, _%_, _^_, min}
 use mathlib.Core.Path.{_≡_}
 use mathlib.Core.Bool.{Bool, true, false, cond}
 use mathlib.Core.List.{List, [], _∷_, _++_, foldl}
 use lib.Dec.{eqb, ltb}
-use lib.ListN.{take}
+use lib.ListN.{take, length}
 use Rattle.std.specs.declared.result.Result.{Result}
 use Rattle.std.specs.declared.result.Result.the-variants.{Ok, Err}
 use Rattle.flash.specs.declared.cycle.Cycle.{Cycle}
@@ -49,10 +49,6 @@ readByte s b =
 abbrev pub reads : Reading → List ℕ → Reading
 reads s bs = foldl readByte s bs
 
--- the cycles of a log, its last line with or without a line feed
-abbrev pub logOf : List ℕ → List Cycle
-logOf bs = reads begun (bs ++ 10 ∷ []) .cycles
-
 -- a reader at run time, with the cycles that it has given
 abbrev pub standing : LogReader → List Cycle → Reading
 standing x cs = record { scan = x .scan; line = x .line; cycles = cs; stopped = false }
@@ -64,7 +60,7 @@ stoppedAt s = record { scan = s .scan; line = s .line; cycles = s .cycles; stopp
 abbrev pub Went : Result (Unit {0}) LogError → Reading → List ℕ → Reading → Type 0
 Went (Ok u) s bs t = reads s bs ≡ t
 Went (Err (NotACycle n)) s bs t = (reads s bs ≡ stoppedAt t) × (n ≡ t .line)
-Went (Err Memory) s bs t = (n : ℕ) × (reads s (take n bs) ≡ t)
+Went (Err Memory) s bs t = (n : ℕ) × (n < length bs) × (reads s (take n bs) ≡ t)
 
 -- a cycle as a line: the kind digit, two upper-case hexadecimal digits, a line feed
 abbrev pub digitOf : Kind → ℕ

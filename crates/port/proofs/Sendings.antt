@@ -17,5 +17,5 @@ module _ {f : List ℕ → Cycle → List ℕ} {m n : Meaning} (cs : List HostCy
   pub sent-all : length cs ≤ i → Took f (map driven cs) m n
   sent-all h = rw (take-all i cs h) at so
 
-  pub sent-front : {o : Meaning} → Refused n o → Sent-front f cs m o
-  sent-front r = subst (λ x. Sent-front f cs m x) (sym (r .same)) (record { count = i; took = so; full = r .empty })
+  pub sent-front : {o : Meaning} → i < length cs → Refused n o → Sent-front f cs m o
+  sent-front h r = subst (λ x. Sent-front f cs m x) (sym (r .same)) (record { count = i; fewer = h; took = so; full = r .empty })

@@ -32,7 +32,7 @@ pub record Wrote (t u : Tape) (c : Cycle) (count : ℕ) : Type 0 where
   pub used : u .used ≡ count
 
 -- nothing was written or used
-pub record Kept (t u : Tape) : Type 0 where
+pub record Unchanged (t u : Tape) : Type 0 where
   pub places : u .places .now ≡ t .places .now
   pub next : u .next ≡ t .next
   pub replies : u .replies .now ≡ t .replies .now

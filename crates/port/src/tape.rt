@@ -7,7 +7,7 @@ ghost use mathlib.Core.Path.{_≡_};
 ghost use Rattle.std.specs.Results.{Cases};
 ghost use Rattle.bus.specs.Bus.{first};
 ghost use Rattle.port.specs.Meanings.{Stepped, Refused, driven, gave};
-ghost use Rattle.port.specs.Tapes.{taped, appended, writtenOn, nextReply, Wrote, Kept, Used, oneMore};
+ghost use Rattle.port.specs.Tapes.{taped, appended, writtenOn, nextReply, Wrote, Unchanged, Used, oneMore};
 use crate::port::Full;
 use crate::port::HostCycle;
 use crate::port::Port;
@@ -91,7 +91,7 @@ pub impl Port for Tape<'_> as TapePort {
 
     fn put(&mut self, cycle: HostCycle) -> Result<(), Full>
         ensures steps { λ r. ⌜ Cases r (λ _. Stepped appended (driven cycle) (taped (now (now (self .entry) .places)) (now (self .entry) .next)) (taped (now (now (self .exit) .places)) (now (self .exit) .next))) (λ _. Refused (taped (now (now (self .entry) .places)) (now (self .entry) .next)) (taped (now (now (self .exit) .places)) (now (self .exit) .next))) ⌝ }
-        ensures writes { λ r. ⌜ Cases r (λ _. Wrote (now (self .entry)) (now (self .exit)) (driven cycle) (now (self .entry) .used)) (λ _. Kept (now (self .entry)) (now (self .exit))) ⌝ }
+        ensures writes { λ r. ⌜ Cases r (λ _. Wrote (now (self .entry)) (now (self .exit)) (driven cycle) (now (self .entry) .used)) (λ _. Unchanged (now (self .entry)) (now (self .exit))) ⌝ }
     {
         if self.next >= self.places.len() {
             return Err(Full);
@@ -102,7 +102,7 @@ pub impl Port for Tape<'_> as TapePort {
 
     fn take(&mut self) -> Result<u8, Full>
         ensures steps { λ r. ⌜ Cases r (λ b. Stepped appended (gave b) (taped (now (now (self .entry) .places)) (now (self .entry) .next)) (taped (now (now (self .exit) .places)) (now (self .exit) .next))) (λ _. Refused (taped (now (now (self .entry) .places)) (now (self .entry) .next)) (taped (now (now (self .exit) .places)) (now (self .exit) .next))) ⌝ }
-        ensures writes { λ r. ⌜ Cases r (λ b. (b ≡ nextReply (now (self .entry))) × Wrote (now (self .entry)) (now (self .exit)) (gave b) (oneMore (now (self .entry) .used))) (λ _. Kept (now (self .entry)) (now (self .exit))) ⌝ }
+        ensures writes { λ r. ⌜ Cases r (λ b. (b ≡ nextReply (now (self .entry))) × Wrote (now (self .entry)) (now (self .exit)) (gave b) (oneMore (now (self .entry) .used))) (λ _. Unchanged (now (self .entry)) (now (self .exit))) ⌝ }
     {
         if self.next >= self.places.len() {
             return Err(Full);

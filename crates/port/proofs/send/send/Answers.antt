@@ -13,7 +13,7 @@ loop-cycle-again g c = sent-more (c .args .cycles .now) (c .loop-cycle .cycle-in
 pub returns-in-Break-put : need.returns-in-Break-put
 returns-in-Break-put g c =
     let p = err-from-errBy (c .from-residual .result) (c .from-residual .ensures .1) in
-    rw (p .1) (sent-front (c .args .cycles .now) (c .loop-cycle .cycle-index) (c .loop-cycle .inv) (c .in-Break-put .ensures tt .steps))
+    rw (p .1) (sent-front (c .args .cycles .now) (c .loop-cycle .cycle-index) (c .loop-cycle .inv) (omega arith) (c .in-Break-put .ensures tt .steps))
 
 pub returns : need.returns
 returns g c = sent-all (c .args .cycles .now) (c .loop-cycle .cycle-index) (c .loop-cycle .inv) (omega arith)

@@ -12,7 +12,7 @@ loop-cycle-again c = told-more (c .args .cycles .now) (c .loop-cycle .cycle-inde
 pub returns-in-Break-tell-one : need.returns-in-Break-tell-one
 returns-in-Break-tell-one c =
     let p = err-from-errBy (c .from-residual .result) (c .from-residual .ensures .1) in
-    rw (p .1) (told-stopped (c .args .cycles .now) (c .loop-cycle .cycle-index) (c .loop-cycle .inv) (c .in-Break-tell-one .ensures tt))
+    rw (p .1) (told-stopped (c .args .cycles .now) (c .loop-cycle .cycle-index) (omega arith) (c .loop-cycle .inv) (c .in-Break-tell-one .ensures tt))
 
 pub returns : need.returns
 returns c = told-all (c .args .cycles .now) (c .loop-cycle .cycle-index) (omega arith) (c .loop-cycle .inv)

@@ -26,9 +26,9 @@ use Rattle.bus.specs.declared.state.BusState.{BusState}
 use Rattle.bus.specs.declared.state.Busy.the-variants as busy
 use Rattle.bus.specs.declared.state.Phase.the-variants as phase
 use Rattle.bus.specs.declared.state.Setup.the-variants as setup
-use Rattle.chip.specs.Cells.{cellAt, cellOf, among, altered, anded, blankPage, rowProgrammed}
+use Rattle.chip.specs.Cells.{cellAt, cellOf, readAt, among, altered, anded, blankPage, rowProgrammed}
 use Rattle.chip.specs.Chips.{Chip, chipStep, chipSteps}
-use Rattle.chip.specs.Kept.{Programs-kept, Held-after}
+use Rattle.chip.specs.Kept.{Programs-kept, Copies-kept, Held-after}
 use Rattle.chip.proofs.Keeps.{altered-else, kept}
 
 abbrev byte : ℕ → Cycle
@@ -164,3 +164,13 @@ programs-kept statuses k w s bs c command ends addressed idle blank some fits =
     let p = takes-all statuses k w s bs some fits (ap length blank ∙ length-replicate {A = ℕ} 2112 0xFF) addressed in
     let e = confirms-program (l .reader .bus) c w s (column (s .number + length bs)) command ends (p .stands) (p .idle ∙ idle) in
     rw (foldl-append (chipStep statuses) k (map byte bs) (c ∷ [])) (holds-after statuses k l c w s (e .0) bs blank fits p (e .1))
+
+-- the 10h of a copy programs the row that was given
+confirms-copy : (u : BusState) (c : Cycle) (w : Row) (s : Column) → c .kind ≡ Command → c .byte ≡ 0x10 → u .phase ≡ phase.Addressed setup.Copy s w → u .busy ≡ busy.Nothing
+    → actOf u c ≡ act.Program w s confirm.Copy
+confirms-copy u c w s k b p i = rw (k, b, i, p) refl
+
+pub copies-kept : Copies-kept
+copies-kept statuses k w s source c kind byte phase idle page j h l =
+    kept statuses k c .programs w s confirm.Copy (confirms-copy (k .reader .bus) c w s kind byte phase idle) .here j h l
+    ∙ ap (λ b. bitAnd (readAt (k .memory .cells) (w .number) j) b) (page j h)

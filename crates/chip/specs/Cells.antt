@@ -14,6 +14,10 @@ cellAt cells i = getD cells i 0xFF
 abbrev pub cellOf : ℕ → ℕ → ℕ
 cellOf row column = 2112 * row + column
 
+-- what a read of a row and a column gives
+abbrev pub readAt : List ℕ → ℕ → ℕ → ℕ
+readAt cells row column = cellAt cells (cellOf row column)
+
 -- i is one of n cells from base on
 abbrev pub among : ℕ → ℕ → ℕ → Bool
 among base n i = leb base i && ltb i (base + n)

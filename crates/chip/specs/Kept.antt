@@ -25,8 +25,8 @@ use Rattle.bus.specs.declared.state.Phase.{Phase}
 use Rattle.bus.specs.declared.state.Phase.the-variants as phase
 use Rattle.bus.specs.declared.state.Register.{Register}
 use Rattle.bus.specs.declared.state.Setup.the-variants as setup
-use Rattle.chip.specs.Cells.{cellAt, cellOf, among, blankPage}
-use Rattle.chip.specs.Chips.{Chip, chipSteps}
+use Rattle.chip.specs.Cells.{cellAt, cellOf, readAt, among, blankPage}
+use Rattle.chip.specs.Chips.{Chip, chipStep, chipSteps}
 
 abbrev pub broken : Chip → Cycle → Breaches
 broken k c = breachesOf (k .reader) (actOf (k .reader .bus) c)
@@ -107,12 +107,12 @@ pub record Kept (k l : Chip) (c : Cycle) : Type 0 where
 abbrev pub given : List ℕ → Cycle → List Cycle
 given bs confirm = map (λ b. record { kind = DataIn; byte = b }) bs ++ confirm ∷ []
 
--- what is programmed is what is there afterwards. With the address of a program given, the buffer
--- blank and nothing busy: after bytes that fit the page and 10h or 15h, each cell of their span that
--- there is memory for holds what it held, ANDed with the byte given for it, and no other cell changes
+-- what is programmed is what a later read gives. With the address of a program given, the buffer
+-- blank and nothing busy: after bytes that fit the page and 10h or 15h, a read of their span gives,
+-- where there is memory for it, what it gave before, ANDed with the bytes given, and no other cell changes
 pub record Held-after (before after : List ℕ) (row column : ℕ) (bs : List ℕ) : Type 0 where
   pub here : (j : ℕ) → j < length bs → cellOf row (column + j) < length before
-      → cellAt after (cellOf row (column + j)) ≡ bitAnd (cellAt before (cellOf row (column + j))) (getD bs j 0)
+      → readAt after row (column + j) ≡ bitAnd (readAt before row (column + j)) (getD bs j 0)
   pub elsewhere : (i : ℕ) → among (cellOf row column) (length bs) i ≡ false → cellAt before i < 256 → cellAt after i ≡ cellAt before i
 
 abbrev pub Programs-kept : Type 0
@@ -122,7 +122,18 @@ Programs-kept = (statuses : List ℕ) (k : Chip) (w : Row) (s : Column) (bs : Li
     → 0 < length bs → s .number + length bs ≤ 2112
     → Held-after (k .memory .cells) (chipSteps statuses k (given bs confirm) .memory .cells) (w .number) (s .number) bs
 
--- a byte of the register that the chip gives is the cell at its row and column
+-- a copy: with its destination given, nothing busy, and in the buffer what its source row gives, 10h
+-- leaves in each cell of the destination row that there is memory for what it held, ANDed with the
+-- source's
+abbrev pub Copies-kept : Type 0
+Copies-kept = (statuses : List ℕ) (k : Chip) (w : Row) (s : Column) (source : ℕ) (confirm : Cycle)
+    → confirm .kind ≡ Command → confirm .byte ≡ 0x10
+    → k .reader .bus .phase ≡ phase.Addressed setup.Copy s w → k .reader .bus .busy ≡ busy.Nothing
+    → ((j : ℕ) → j < 2112 → getD (k .memory .page) j 0 ≡ readAt (k .memory .cells) source j)
+    → (j : ℕ) → j < 2112 → cellOf (w .number) j < length (k .memory .cells)
+    → readAt (chipStep statuses k confirm .memory .cells) (w .number) j ≡ bitAnd (readAt (k .memory .cells) (w .number) j) (readAt (k .memory .cells) source j)
+
+-- a byte of the register that the chip gives is what a read of its row and column gives
 abbrev pub Read-out : Chip → ℕ → Type 0
 Read-out k b = (w : Row) (s : Column) (d : ℕ) → actOf (k .reader .bus) (record { kind = DataOut; byte = b }) ≡ act.Data w s d
-    → b ≡ cellAt (k .memory .cells) (cellOf (w .number) (s .number))
+    → b ≡ readAt (k .memory .cells) (w .number) (s .number)

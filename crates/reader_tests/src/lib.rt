@@ -4,6 +4,8 @@ mod breaches;
 #[cfg(test)]
 mod edges;
 #[cfg(test)]
+mod few;
+#[cfg(test)]
 mod holds;
 #[cfg(test)]
 mod logs;

@@ -7,7 +7,7 @@ use Rattle.bus.specs.Readers.{held}
 use Rattle.bus.specs.States.{firstBus}
 use Rattle.chip.specs.Chips.{roomFor}
 use Rattle.chip.proofs.Ports.{first-own, first-filled}
-use Rattle.chip.proofs.Spans.{programs-kept}
+use Rattle.chip.proofs.Spans.{programs-kept, copies-kept}
 use Rattle.chip.proofs.model.ModelChip.new.Needs as need
 
 pub returns : need.returns
@@ -22,4 +22,5 @@ returns c = record {
   fresh = λ h. ap (λ (r : Reader). record { bus = r .bus; blocks = filled (r .blocks) }) (c .new .ensures .first)
       ∙ ap (λ ks. record { bus = firstBus; blocks = ks }) (first-filled (length (c .args .blocks .now)) h);
   keeps = programs-kept;
+  copies = copies-kept;
 }

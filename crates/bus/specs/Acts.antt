@@ -1,5 +1,5 @@
 -- What an arriving cycle is, given where the bus stands.
-use Rattle.std.specs.Prelude.{ℕ, Bool, true, false, cond, ◌&&◌, List, [], ◌∷◌, Some, None, Option, ◌==◌, nat_lt, slice_index}
+use Rattle.std.specs.Prelude.{ℕ, Bool, true, false, cond, ◌&&◌, [], ◌∷◌, Some, None, Option, ◌==◌, nat_lt, slice_index}
 use Rattle.flash.specs.Addresses.{column_of, row_of, block_of, in_page}
 use Rattle.flash.specs.Opcodes.{opcode_of}
 use Rattle.flash.specs.declared.address.Column.{Column}
@@ -8,7 +8,6 @@ use Rattle.flash.specs.declared.cycle.Cycle.{Cycle}
 use Rattle.flash.specs.declared.cycle.Kind.TheVariants.{Command, Address, DataIn, DataOut}
 use Rattle.flash.specs.declared.opcode.Opcode.{Opcode}
 use Rattle.flash.specs.declared.opcode.Opcode.TheVariants as op
-use Rattle.flash.specs.declared.part.Part.{Part}
 use Rattle.bus.specs.States.{blocks_in, cycles_in, known, nothing_given, column_skipped, plus, quiet, idle, closed, copy_up}
 use Rattle.bus.specs.declared.act.Act.{Act}
 use Rattle.bus.specs.declared.act.Act.TheVariants as act

@@ -1,5 +1,5 @@
 -- The rules that a cycle breaks, judged before its effect.
-use Rattle.std.specs.Prelude.{ℕ, ◌+◌, Bool, true, false, cond, not, List, [], ◌∷◌, ◌++◌, length}
+use Rattle.std.specs.Prelude.{ℕ, ◌+◌, Bool, true, false, cond, not, List, [], ◌∷◌, ◌++◌}
 use Rattle.flash.specs.Addresses.{page_of}
 use Rattle.flash.specs.Records.{fit, out_of_order, programmed_out}
 use Rattle.flash.specs.declared.record.BlockRecord.{BlockRecord}

@@ -1,5 +1,5 @@
 -- The bus reader: how each cycle moves what it holds.
-use Rattle.std.specs.Prelude.{ℕ, ◌+◌, ◌-◌, min, Bool, true, false, cond, List, [], ◌∷◌, ◌++◌, length, replicate, Some, None, Option, nat_lt, slice_index_or, slice_set}
+use Rattle.std.specs.Prelude.{ℕ, ◌+◌, ◌-◌, min, false, cond, List, ◌++◌, length, replicate, Some, None, Option, nat_lt, slice_index_or, slice_set}
 use mathlib.Core.List.{foldl}
 use Rattle.flash.specs.Addresses.{block_of, page_of, next_column, at_mark}
 use Rattle.flash.specs.Parts.{identified}

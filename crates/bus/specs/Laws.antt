@@ -1,13 +1,12 @@
 -- What one cycle may do to a reader, in the words of the bus. In each law `r` is the reader before
 -- the cycle `c`, and `s` the reader after it.
-use Rattle.std.specs.Prelude.{◌≡◌, ℕ, ◌+◌, ◌<◌, ◌≤◌, min, Bool, true, false, not, ◌&&◌, ◌||◌, ◌⊎◌, List, [], ◌∷◌, length, Some, None, Option, ◌==◌, ◌≢◌, nat_eq, slice_index_or}
+use Rattle.std.specs.Prelude.{◌≡◌, ℕ, ◌+◌, ◌<◌, ◌≤◌, min, Bool, true, false, not, ◌&&◌, ◌||◌, ◌⊎◌, List, [], ◌∷◌, length, Some, None, ◌==◌, ◌≢◌, nat_eq, slice_index_or}
 use Rattle.flash.specs.Addresses.{block_of}
 use Rattle.flash.specs.Records.{first_record}
 use Rattle.flash.specs.Statuses.{ready, verdict_of}
 use Rattle.flash.specs.declared.address.Column.{Column}
 use Rattle.flash.specs.declared.address.Row.{Row}
 use Rattle.flash.specs.declared.cycle.Cycle.{Cycle}
-use Rattle.flash.specs.declared.cycle.Kind.{Kind}
 use Rattle.flash.specs.declared.cycle.Kind.TheVariants.{Command, Address, DataIn, DataOut}
 use Rattle.flash.specs.declared.part.Part.{Part}
 use Rattle.flash.specs.declared.record.BlockRecord.{BlockRecord}

@@ -1,5 +1,5 @@
 -- Words about where the bus stands.
-use Rattle.std.specs.Prelude.{ℕ, ◌+◌, Bool, true, false, cond, List, [], ◌∷◌, Some, None, Option, nat_lt, slice_set}
+use Rattle.std.specs.Prelude.{ℕ, ◌+◌, Bool, true, false, cond, [], ◌∷◌, Some, None, Option, nat_lt, slice_set}
 use Rattle.flash.specs.Parts.{blocks_of, address_cycles, programs_allowed}
 use Rattle.flash.specs.declared.part.Part.{Part}
 use Rattle.bus.specs.declared.state.Given.{Given}

@@ -1,3 +1,5 @@
 // Bus cycles as text: a log has one a line.
+#![tactic(auto)]
+
 pub mod line;
 pub mod log_reader;

@@ -1,4 +1,6 @@
 // Tests of the tape and the model chip on scripts of cycles.
+#![tactic(auto)]
+
 #[cfg(test)]
 mod both;
 #[cfg(test)]

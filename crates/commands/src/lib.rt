@@ -1,5 +1,7 @@
 // The command sequences of a NAND chip, on any port. Each sends its cycles in order and ends where the
 // port has no room, or where a poll ends without a ready status.
+#![tactic(auto)]
+
 mod bytes;
 pub mod copy;
 pub mod erase;

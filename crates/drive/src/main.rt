@@ -1,5 +1,7 @@
 // drive: runs a script of driver calls from standard input, on a tape or on a model chip. It prints a
 // line for each call with its answer and then, of a tape, its cycles, as a log of the bus.
+#![tactic(auto)]
+
 mod parse;
 mod running;
 mod settings;

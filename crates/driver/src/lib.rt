@@ -1,5 +1,7 @@
 // The flash driver: a survey that finds the marked blocks, the driver that it becomes, and scripts of
 // calls on them.
+#![tactic(auto)]
+
 mod admit;
 mod arguments;
 mod chain;

@@ -1,4 +1,6 @@
 // Worked examples of the tables and the bus reader, as one statement.
+#![tactic(auto)]
+
 ghost use Rattle.std.specs.Prelude.{◌≡◌};
 ghost use Rattle.examples.specs.Worked.{Worked};
 

@@ -1,5 +1,5 @@
 -- What is known of one block, and how work on it changes that.
-use Rattle.std.specs.Prelude.{ℕ, ◌+◌, min, Bool, true, false, cond, not, ◌&&◌, ◌||◌, ◌==◌, nat_le, nat_lt}
+use Rattle.std.specs.Prelude.{ℕ, ◌+◌, Bool, true, false, cond, not, ◌&&◌, ◌||◌, ◌==◌, nat_le, nat_lt}
 use Rattle.flash.specs.declared.record.Mark.{Mark}
 use Rattle.flash.specs.declared.record.Mark.TheVariants.{Unread, Clean, Marked}
 use Rattle.flash.specs.declared.record.Pages.{Pages}

@@ -1,6 +1,8 @@
 // judge: reads a log of bus cycles and reports what was done to the chip and which rules were broken.
 // With names of logs as arguments it reads those, one after the other, each with a reader of its own;
 // `-`, or no argument, is standard input.
+#![tactic(auto)]
+
 mod judging;
 mod report;
 #[cfg(test)]

@@ -1,5 +1,7 @@
 // pace: how fast the bus reader judges cycles, against a loop over the same cycles that only counts
 // their kinds. `pace time` prints both in cycles a second; without it, only what both found.
+#![tactic(auto)]
+
 mod take;
 
 use bus::reader::BusReader;

@@ -1,4 +1,6 @@
 // Tests of the bus reader on logs of cycles; the tables say what the rules of the bus ask.
+#![tactic(auto)]
+
 #[cfg(test)]
 mod breaches;
 #[cfg(test)]

@@ -1,4 +1,6 @@
 // Scripts on a tape and on a model chip, and what their owner sees.
+#![tactic(auto)]
+
 ghost use Rattle.std.specs.Prelude.{◌≡◌, ◌≤◌, length};
 ghost use Rattle.flash.specs.Parts.{blocks_of};
 ghost use Rattle.driver.specs.Opens.{poll_count};

@@ -1,5 +1,7 @@
 // session: what identify puts on the bus. Reads what the chip is to reply, two hexadecimal digits a
 // line, and prints the cycles, one a line: a digit for the kind and two for the byte.
+#![tactic(auto)]
+
 mod replies;
 
 use calls::call::Call;

@@ -1,2 +1,4 @@
 // Cycles as text, for tests.
+#![tactic(auto)]
+
 pub mod run;

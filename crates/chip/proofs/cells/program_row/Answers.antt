@@ -7,7 +7,7 @@ pub loop-column-init : goal.loop-column-init
 loop-column-init c = anded_none _ _ _
 
 pub loop-column-preserved : goal.loop-column-preserved
-loop-column-preserved c = c.and-cell.ensures ∙ anded_more _ c.loop-column.column _ _ _ c.loop-column.invariant
+loop-column-preserved c = c.and_cell.ensures ∙ anded_more _ c.loop-column.column _ _ _ c.loop-column.invariant
 
 pub returns : goal.returns
 returns c =

@@ -2,4 +2,4 @@ use Rattle.std.proofs.lemmas.Result.{err_from_is_err_and}
 use Rattle.commands.proofs.copy.send_copy_read.Goals as goal
 
 pub returns : goal.returns
-returns g c = c.in-ok-open-page.ensures
+returns g c = c.in_ok-open_page.ensures

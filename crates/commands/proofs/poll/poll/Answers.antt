@@ -6,23 +6,23 @@ use Rattle.commands.proofs.Runs.{ran_step, stopped_here}
 use Rattle.commands.proofs.Waits.{waited_more, ready_now, timed_out_lem, ran_out}
 use Rattle.commands.proofs.poll.poll.Goals as goal
 
-pub returns-in-err-put-command : goal.returns-in-err-put-command
-returns-in-err-put-command g c =
-    let q = err_from_is_err_and c.from-residual.result c.from-residual.ensures.1 in
-    rw (q.1, q.2) (stopped_here (λ rs. map gave (taken c.args.polls rs)) c.in-err-put-command.ensures)
+pub returns-in_err-put_command : goal.returns-in_err-put_command
+returns-in_err-put_command g c =
+    let q = err_from_is_err_and c.from_residual.result c.from_residual.ensures.1 in
+    rw (q.1, q.2) (stopped_here (λ rs. map gave (taken c.args.polls rs)) c.in_err-put_command.ensures)
 
-pub returns-in-err-status : goal.returns-in-err-status
-returns-in-err-status g c =
-    let q = err_from_is_err_and c.from-residual-in-err-status.result c.from-residual-in-err-status.ensures.1 in
-    rw (q.1, q.2) (ran_out c.in-ok-put-command.ensures c.loop-turn.invariant c.args.page (omega arith) c.in-err-status.ensures.steps)
+pub returns-in_err-status : goal.returns-in_err-status
+returns-in_err-status g c =
+    let q = err_from_is_err_and c.from_residual-in_err-status.result c.from_residual-in_err-status.ensures.1 in
+    rw (q.1, q.2) (ran_out c.in_ok-put_command.ensures c.loop-turn.invariant c.args.page (omega arith) c.in_err-status.ensures.steps)
 
-pub returns-then-is-ready : goal.returns-then-is-ready
-returns-then-is-ready g c =
-    ready_now c.in-ok-put-command.ensures c.loop-turn.invariant (omega arith) (ran_step c.in-ok-status.ensures.steps)
-    (sym c.if-is-ready.ensures)
+pub returns-then-is_ready : goal.returns-then-is_ready
+returns-then-is_ready g c =
+    ready_now c.in_ok-put_command.ensures c.loop-turn.invariant (omega arith) (ran_step c.in_ok-status.ensures.steps)
+    (sym c.if-is_ready.ensures)
 
 pub loop-turn-preserved : goal.loop-turn-preserved
-loop-turn-preserved g c = waited_more c.loop-turn.invariant (ran_step c.in-ok-status.ensures.steps) (sym c.if-is-ready.ensures)
+loop-turn-preserved g c = waited_more c.loop-turn.invariant (ran_step c.in_ok-status.ensures.steps) (sym c.if-is_ready.ensures)
 
 pub returns : goal.returns
-returns g c = timed_out_lem c.in-ok-put-command.ensures c.loop-turn.invariant c.args.page (omega arith)
+returns g c = timed_out_lem c.in_ok-put_command.ensures c.loop-turn.invariant c.args.page (omega arith)

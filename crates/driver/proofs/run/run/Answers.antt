@@ -9,8 +9,8 @@ loop-step-init g c = scripted_none (stage.Surveying c.open.result) c.args.script
 
 pub loop-step-preserved : goal.loop-step-preserved
 loop-step-preserved g c =
-    scripted_step (stage.Surveying c.open.result) c.args.script.now c.loop-step.step-index c.loop-step.going (vec_items c.args.answers.now) (vec_items c.loop-step.answers) (vec_items c.take-step-next.new.answers)
-    c.loop-step.stage c.take-step-next.result.0 c.loop-step-test.true c.loop-step.invariant c.step-item.result c.take-step-next.result.1 c.step-item.is c.take-step-next.ensures
+    scripted_step (stage.Surveying c.open.result) c.args.script.now c.loop-step.step-index c.loop-step.going (vec_items c.args.answers.now) (vec_items c.loop-step.answers) (vec_items c.take_step-next.new.answers)
+    c.loop-step.stage c.take_step-next.result.0 c.loop-step-test.true c.loop-step.invariant c.step-item.result c.take_step-next.result.1 c.step-item.is c.take_step-next.ensures
 
 pub returns : goal.returns
 returns g c =

@@ -8,9 +8,9 @@ use Rattle.events.proofs.teller.tell_breach.Goals as goal
 pub returns-then-broken : goal.returns-then-broken
 returns-then-broken c =
     record {
-      told = ap (map thing) c.push-reserved.ensures.items
+      told = ap (map thing) c.push_reserved.ensures.items
           ∙ (map_push thing (vec_items c.args.events.now) _
           ∙ ap (λ b. map thing (vec_items c.args.events.now) ++ map (broke c.args.cycle) (if_so b c.args.breach)) (sym c.if-broken.true));
       len = omega arith;
-      capacity = c.push-reserved.ensures.capacity;
+      capacity = c.push_reserved.ensures.capacity;
     }

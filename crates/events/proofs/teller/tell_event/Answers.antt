@@ -5,7 +5,7 @@ use Rattle.events.proofs.teller.tell_event.Goals as goal
 
 pub returns-in-Some : goal.returns-in-Some
 returns-in-Some c =
-    ap (map thing) c.push-reserved.ensures.items
+    ap (map thing) c.push_reserved.ensures.items
     ∙ (map_push thing (vec_items c.args.events.now) c.in-Some.event
     ∙ ap (λ e. map thing (vec_items c.args.events.now) ++ listed e) (sym c.in-Some.is))
 

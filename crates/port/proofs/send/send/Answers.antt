@@ -8,12 +8,12 @@ pub loop-cycle-init : goal.loop-cycle-init
 loop-cycle-init g c = took_none _
 
 pub loop-cycle-preserved : goal.loop-cycle-preserved
-loop-cycle-preserved g c = sent_more c.args.cycles.now c.loop-cycle.cycle-index c.loop-cycle.invariant _ (omega arith) c.in-ok-put.ensures.steps
+loop-cycle-preserved g c = sent_more c.args.cycles.now c.loop-cycle.cycle-index c.loop-cycle.invariant _ (omega arith) c.in_ok-put.ensures.steps
 
-pub returns-in-err-put : goal.returns-in-err-put
-returns-in-err-put g c =
-    let p = err_from_is_err_and c.from-residual.result c.from-residual.ensures.1 in
-    rw p.1 (sent_front c.args.cycles.now c.loop-cycle.cycle-index c.loop-cycle.invariant (omega arith) c.in-err-put.ensures.steps)
+pub returns-in_err-put : goal.returns-in_err-put
+returns-in_err-put g c =
+    let p = err_from_is_err_and c.from_residual.result c.from_residual.ensures.1 in
+    rw p.1 (sent_front c.args.cycles.now c.loop-cycle.cycle-index c.loop-cycle.invariant (omega arith) c.in_err-put.ensures.steps)
 
 pub returns : goal.returns
 returns g c = sent_all c.args.cycles.now c.loop-cycle.cycle-index c.loop-cycle.invariant (omega arith)

@@ -12,11 +12,11 @@ pub loop-byte-preserved : goal.loop-byte-preserved
 loop-byte-preserved c =
     ap (run_on (begun_with (vec_items c.args.cycles.now))) (take_more c.args.run.now c.loop-byte.byte-index 0 (omega arith))
     ∙ (foldl-append run_byte (begun_with (vec_items c.args.cycles.now)) (take c.loop-byte.byte-index c.args.run.now) (get_or c.args.run.now c.loop-byte.byte-index 0 ∷ [])
-    ∙ (ap (λ s. run_byte s (get_or c.args.run.now c.loop-byte.byte-index 0)) c.loop-byte.invariant ∙ c.in-ok-feed.ensures))
+    ∙ (ap (λ s. run_byte s (get_or c.args.run.now c.loop-byte.byte-index 0)) c.loop-byte.invariant ∙ c.in_ok-feed.ensures))
 
 pub returns : goal.returns
 returns c =
     sym (ap (λ (s : Reading). s.cycles)
     (ap (λ s. read_byte s 10)
     (ap (run_on (begun_with (vec_items c.args.cycles.now))) (sym (take_all c.loop-byte.byte-index c.args.run.now (omega arith))) ∙ c.loop-byte.invariant)
-    ∙ c.in-ok-feed-2.ensures))
+    ∙ c.in_ok-feed-2.ensures))

@@ -6,12 +6,12 @@ use Rattle.bus_log.proofs.Readings.{reads_more, ends}
 use Rattle.bus_log.proofs.log_reader.LogReader.read.Goals as goal
 
 pub loop-byte-preserved : goal.loop-byte-preserved
-loop-byte-preserved c = reads_more _ _ _ c.args.bytes.now c.loop-byte.byte-index c.loop-byte.invariant (omega arith) c.in-ok-read-byte.ensures
+loop-byte-preserved c = reads_more _ _ _ c.args.bytes.now c.loop-byte.byte-index c.loop-byte.invariant (omega arith) c.in_ok-read_byte.ensures
 
-pub returns-in-err-read-byte : goal.returns-in-err-read-byte
-returns-in-err-read-byte c =
-    let p = err_from_is_err_and c.from-residual.result c.from-residual.ensures.1 in
-    rw (p.1, p.2) (ends _ _ _ c.args.bytes.now c.loop-byte.byte-index c.loop-byte.invariant (omega arith) _ c.in-err-read-byte.ensures)
+pub returns-in_err-read_byte : goal.returns-in_err-read_byte
+returns-in_err-read_byte c =
+    let p = err_from_is_err_and c.from_residual.result c.from_residual.ensures.1 in
+    rw (p.1, p.2) (ends _ _ _ c.args.bytes.now c.loop-byte.byte-index c.loop-byte.invariant (omega arith) _ c.in_err-read_byte.ensures)
 
 pub returns : goal.returns
 returns c =

@@ -4,7 +4,7 @@ use Rattle.calls.proofs.call.Call.most_cycles.Goals as goal
 
 pub returns : goal.returns
 returns c = record {
-  most = c.most-of.ensures;
+  most = c.most_of.ensures;
   within = within_most c.args.part c.args.polls c.args.self c.args.count;
   told = told_back c.args.part c.args.polls c.args.self;
 }

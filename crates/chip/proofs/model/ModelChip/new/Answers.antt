@@ -14,10 +14,10 @@ use Rattle.chip.proofs.model.ModelChip.new.Goals as goal
 
 pub returns : goal.returns
 returns c =
-    let made : Chip = record { reader = held c.new.result; memory = record { cells = c.args.cells.now; page = c.blank-page.result; status = 0xC0 } } in
+    let made : Chip = record { reader = held c.new.result; memory = record { cells = c.args.cells.now; page = c.blank_page.result; status = 0xC0 } } in
     let first : made ≡ first_chip (length c.args.blocks.now) c.args.cells.now =
-    ap (λ r. record { reader = r; memory = record { cells = c.args.cells.now; page = c.blank-page.result; status = 0xC0 } }) c.new.ensures.first
-    ∙ ap (λ p. record { reader = record { bus = first_bus; blocks = replicate (length c.args.blocks.now) first_record }; memory = record { cells = c.args.cells.now; page = p; status = 0xC0 } }) c.blank-page.ensures in
+    ap (λ r. record { reader = r; memory = record { cells = c.args.cells.now; page = c.blank_page.result; status = 0xC0 } }) c.new.ensures.first
+    ∙ ap (λ p. record { reader = record { bus = first_bus; blocks = replicate (length c.args.blocks.now) first_record }; memory = record { cells = c.args.cells.now; page = p; status = 0xC0 } }) c.blank_page.ensures in
     record {
       chip = first;
       part = refl;
@@ -30,5 +30,5 @@ returns c =
       keeps = programs_kept;
       copies = copies_kept;
       remembers = subst (λ (k : Chip). EverRemembers c.args.statuses.now k) (sym first)
-          (ever_remembers c.args.statuses.now (length c.args.blocks.now) c.args.cells.now c.hold-bytes.ensures);
+          (ever_remembers c.args.statuses.now (length c.args.blocks.now) c.args.cells.now c.hold_bytes.ensures);
     }

@@ -16,7 +16,7 @@ pub returns : goal.returns
 returns c =
     let k : ModelChip = c.args.self.now in
     let l : ModelChip = c.step.new.self in
-    let room : has_room k ≡ true = sym c.has-room.ensures ∙ c.if-not-has-room.false in
+    let room : has_room k ≡ true = sym c.has_room.ensures ∙ c.if-not-has_room.false in
     let stepped : chip_of l ≡ chip_step k.statuses.now (chip_of k) c.cycle-kind.result = c.step.ensures.chip in
     let ran : chip_of l ≡ chip_step k.statuses.now (chip_of k) (driven c.args.cycle) =
     stepped ∙ ap (λ x. chip_step k.statuses.now (chip_of k) x) c.cycle-kind.ensures in

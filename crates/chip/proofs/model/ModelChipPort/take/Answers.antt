@@ -13,10 +13,10 @@ use Rattle.chip.proofs.model.ModelChipPort.take.Goals as goal
 pub returns : goal.returns
 returns c =
     let k : ModelChip = c.args.self.now in
-    let room : has_room k ≡ true = sym c.has-room.ensures ∙ c.if-not-has-room.false in
+    let room : has_room k ≡ true = sym c.has_room.ensures ∙ c.if-not-has_room.false in
     record {
-      steps = chip_stepped k c.step.new.self (gave c.byte-out-byte.result) k.statuses.now c.step.ensures.chip c.step.ensures.means c.step.ensures.part room
-          (subst (λ b. own k.part (moved k.reader.bus (act_of k.reader.bus (gave b))) ≡ true) (sym c.byte-out-byte.ensures)
+      steps = chip_stepped k c.step.new.self (gave c.byte_out-byte.result) k.statuses.now c.step.ensures.chip c.step.ensures.means c.step.ensures.part room
+          (subst (λ b. own k.part (moved k.reader.bus (act_of k.reader.bus (gave b))) ≡ true) (sym c.byte_out-byte.ensures)
           (take_own k.part k.reader.bus (memory_of k) (room_own k room)));
-      runs = (c.byte-out-byte.ensures, read_out k.part (chip_of k) c.byte-out-byte.result c.byte-out-byte.ensures, record { chip = c.step.ensures.chip; kept = c.step.ensures.kept; part = c.step.ensures.part; statuses = c.step.ensures.statuses });
+      runs = (c.byte_out-byte.ensures, read_out k.part (chip_of k) c.byte_out-byte.result c.byte_out-byte.ensures, record { chip = c.step.ensures.chip; kept = c.step.ensures.kept; part = c.step.ensures.part; statuses = c.step.ensures.statuses });
     }

@@ -10,19 +10,19 @@ use Rattle.driver.specs.declared.standing.Standing.TheVariants as standing
 use Rattle.driver.proofs.Calleds.{called_refused, called_accepted, passed, never_cut, page_known, both}
 use Rattle.driver.proofs.session.Session.cache_first.Goals as goal
 
-pub returns-in-err-admit : goal.returns-in-err-admit
-returns-in-err-admit g c =
-    let q = err_from_is_err_and c.from-residual.result c.from-residual.ensures.1 in
-    rw (q.1, q.2) (called_refused g.P.Port c.args.self.now (call.CacheFirst c.args.page c.args.column) c.args.bytes.now c.in-err-admit.ensures)
+pub returns-in_err-admit : goal.returns-in_err-admit
+returns-in_err-admit g c =
+    let q = err_from_is_err_and c.from_residual.result c.from_residual.ensures.1 in
+    rw (q.1, q.2) (called_refused g.P.Port c.args.self.now (call.CacheFirst c.args.page c.args.column) c.args.bytes.now c.in_err-admit.ensures)
 
-pub returns-in-err-send-program : goal.returns-in-err-send-program
-returns-in-err-send-program g c =
-    let k = passed g.P.Port c.args.self.now (call.CacheFirst c.args.page c.args.column) c.args.bytes.now c.in-ok-admit.ensures in
-    absurd (never_cut k [] (both (λ o w. program_cycles o w c.args.column c.args.bytes.now confirm.Cache) (page_known c.args.self.now.part c.args.page _ k.arguments c.part-or-part.ensures) c.row.ensures) c.in-err-send-program.ensures.1)
+pub returns-in_err-send_program : goal.returns-in_err-send_program
+returns-in_err-send_program g c =
+    let k = passed g.P.Port c.args.self.now (call.CacheFirst c.args.page c.args.column) c.args.bytes.now c.in_ok-admit.ensures in
+    absurd (never_cut k [] (both (λ o w. program_cycles o w c.args.column c.args.bytes.now confirm.Cache) (page_known c.args.self.now.part c.args.page _ k.arguments c.part_or-part.ensures) c.row.ensures) c.in_err-send_program.ensures.1)
 
 pub returns : goal.returns
 returns g c =
-    let k = passed g.P.Port c.args.self.now (call.CacheFirst c.args.page c.args.column) c.args.bytes.now c.in-ok-admit.ensures in
-    called_accepted k [] (ap slip c.chain-slip.ensures)
-    (ap (λ ks. leaving (view_of c.args.self.now) ks (standing.Chaining c.args.page)) c.note-program.ensures)
-    (ran_as (both (λ o w. program_cycles o w c.args.column c.args.bytes.now confirm.Cache) (page_known c.args.self.now.part c.args.page _ k.arguments c.part-or-part.ensures) c.row.ensures) c.in-ok-send-program.ensures)
+    let k = passed g.P.Port c.args.self.now (call.CacheFirst c.args.page c.args.column) c.args.bytes.now c.in_ok-admit.ensures in
+    called_accepted k [] (ap slip c.chain_slip.ensures)
+    (ap (λ ks. leaving (view_of c.args.self.now) ks (standing.Chaining c.args.page)) c.note_program.ensures)
+    (ran_as (both (λ o w. program_cycles o w c.args.column c.args.bytes.now confirm.Cache) (page_known c.args.self.now.part c.args.page _ k.arguments c.part_or-part.ensures) c.row.ensures) c.in_ok-send_program.ensures)

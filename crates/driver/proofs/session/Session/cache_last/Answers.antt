@@ -15,48 +15,48 @@ use Rattle.driver.proofs.Calleds.{called_refused, called_did, passed, enough, di
 use Rattle.driver.proofs.Follows.{follow_late, follow_cut, follow_sent}
 use Rattle.driver.proofs.session.Session.cache_last.Goals as goal
 
-pub returns-in-err-admit : goal.returns-in-err-admit
-returns-in-err-admit g c =
-    let q = err_from_is_err_and c.from-residual.result c.from-residual.ensures.1 in
+pub returns-in_err-admit : goal.returns-in_err-admit
+returns-in_err-admit g c =
+    let q = err_from_is_err_and c.from_residual.result c.from_residual.ensures.1 in
     rw (q.1, q.2) (record {
-      called = called_refused g.P.Port c.args.self.now (call.CacheLast c.args.slip.now.number c.args.page c.args.column) c.args.bytes.now c.in-err-admit.ensures;
+      called = called_refused g.P.Port c.args.self.now (call.CacheLast c.args.slip.now.number c.args.page c.args.column) c.args.bytes.now c.in_err-admit.ensures;
       slip = refl;
     })
 
-pub returns-in-err-poll : goal.returns-in-err-poll
-returns-in-err-poll g c =
-    let q = err_from_is_err_and c.from-residual-in-err-poll.result c.from-residual-in-err-poll.ensures.1 in
+pub returns-in_err-poll : goal.returns-in_err-poll
+returns-in_err-poll g c =
+    let q = err_from_is_err_and c.from_residual-in_err-poll.result c.from_residual-in_err-poll.ensures.1 in
     let s = c.args.self.now in
     let place = chain_page c.args.slip.now.number c.args.page in
     let ds = program_cycles s.part (row_at place) c.args.column c.args.bytes.now confirm.Program in
-    let k = passed g.P.Port s (call.CacheLast c.args.slip.now.number c.args.page c.args.column) c.args.bytes.now c.in-ok-admit.ensures in
+    let k = passed g.P.Port s (call.CacheLast c.args.slip.now.number c.args.page c.args.column) c.args.bytes.now c.in_ok-admit.ensures in
     rw (q.1, q.2) (record {
-      called = called_did k (did_late (λ rs o. last_by (view_of s) place o) (enough k) (ap Some c.chain-page-place.ensures) (λ rs. refl) (λ rs. refl)
-          (follow_late k (poll_cycles s.polls) ds (λ rs. refl) c.in-err-poll.ensures));
+      called = called_did k (did_late (λ rs o. last_by (view_of s) place o) (enough k) (ap Some c.chain_page-place.ensures) (λ rs. refl) (λ rs. refl)
+          (follow_late k (poll_cycles s.polls) ds (λ rs. refl) c.in_err-poll.ensures));
       slip = refl;
     })
 
-pub returns-in-err-send-program : goal.returns-in-err-send-program
-returns-in-err-send-program g c =
+pub returns-in_err-send_program : goal.returns-in_err-send_program
+returns-in_err-send_program g c =
     let s = c.args.self.now in
     let place = chain_page c.args.slip.now.number c.args.page in
     let ds = program_cycles s.part (row_at place) c.args.column c.args.bytes.now confirm.Program in
-    let k = passed g.P.Port s (call.CacheLast c.args.slip.now.number c.args.page c.args.column) c.args.bytes.now c.in-ok-admit.ensures in
-    let e = both (λ o w. program_cycles o w c.args.column c.args.bytes.now confirm.Program) (page_known s.part place _ k.arguments c.part-or-part.ensures) (c.row.ensures ∙ ap row_at c.chain-page-place.ensures) in
-    absurd (follow_cut k (poll_cycles s.polls) ds (λ rs. refl) c.in-ok-poll.ensures (cut_as e c.in-err-send-program.ensures.1))
+    let k = passed g.P.Port s (call.CacheLast c.args.slip.now.number c.args.page c.args.column) c.args.bytes.now c.in_ok-admit.ensures in
+    let e = both (λ o w. program_cycles o w c.args.column c.args.bytes.now confirm.Program) (page_known s.part place _ k.arguments c.part_or-part.ensures) (c.row.ensures ∙ ap row_at c.chain_page-place.ensures) in
+    absurd (follow_cut k (poll_cycles s.polls) ds (λ rs. refl) c.in_ok-poll.ensures (cut_as e c.in_err-send_program.ensures.1))
 
 pub returns : goal.returns
 returns g c =
     let s = c.args.self.now in
     let place = chain_page c.args.slip.now.number c.args.page in
     let ds = program_cycles s.part (row_at place) c.args.column c.args.bytes.now confirm.Program in
-    let k = passed g.P.Port s (call.CacheLast c.args.slip.now.number c.args.page c.args.column) c.args.bytes.now c.in-ok-admit.ensures in
-    let e = both (λ o w. program_cycles o w c.args.column c.args.bytes.now confirm.Program) (page_known s.part place _ k.arguments c.part-or-part.ensures) (c.row.ensures ∙ ap row_at c.chain-page-place.ensures) in
-    let at = c.chain-page-place.ensures in
+    let k = passed g.P.Port s (call.CacheLast c.args.slip.now.number c.args.page c.args.column) c.args.bytes.now c.in_ok-admit.ensures in
+    let e = both (λ o w. program_cycles o w c.args.column c.args.bytes.now confirm.Program) (page_known s.part place _ k.arguments c.part_or-part.ensures) (c.row.ensures ∙ ap row_at c.chain_page-place.ensures) in
+    let at = c.chain_page-place.ensures in
     record {
       called = called_did k (did_ready (λ rs o. last_by (view_of s) place o)
-          (follow_sent k (poll_cycles s.polls) ds (λ rs. refl) c.in-ok-poll.ensures (ran_as e c.in-ok-send-program.ensures))
-          (λ _. ap slip c.program-slip-slip.ensures ∙ ap (λ x. slip (program_slip x)) at)
-          (λ _. ap (λ ks. leaving (view_of s) ks (standing.Programming c.chain-page-place.result)) c.note-program.ensures ∙ ap (λ x. (programming (view_of s) x).view) at));
+          (follow_sent k (poll_cycles s.polls) ds (λ rs. refl) c.in_ok-poll.ensures (ran_as e c.in_ok-send_program.ensures))
+          (λ _. ap slip c.program_slip-slip.ensures ∙ ap (λ x. slip (program_slip x)) at)
+          (λ _. ap (λ ks. leaving (view_of s) ks (standing.Programming c.chain_page-place.result)) c.note_program.ensures ∙ ap (λ x. (programming (view_of s) x).view) at));
       slip = tt;
     }

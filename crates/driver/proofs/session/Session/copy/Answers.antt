@@ -11,42 +11,42 @@ use Rattle.driver.proofs.Calleds.{called_refused, called_did, passed, enough, di
 use Rattle.driver.proofs.Follows.{follow_late, follow_cut, follow_sent, copy_whole}
 use Rattle.driver.proofs.session.Session.copy.Goals as goal
 
-pub returns-in-err-admit : goal.returns-in-err-admit
-returns-in-err-admit g c =
-    let q = err_from_is_err_and c.from-residual.result c.from-residual.ensures.1 in
-    rw (q.1, q.2) (called_refused g.P.Port c.args.self.now (call.Copy c.args.source c.args.destination) [] c.in-err-admit.ensures)
+pub returns-in_err-admit : goal.returns-in_err-admit
+returns-in_err-admit g c =
+    let q = err_from_is_err_and c.from_residual.result c.from_residual.ensures.1 in
+    rw (q.1, q.2) (called_refused g.P.Port c.args.self.now (call.Copy c.args.source c.args.destination) [] c.in_err-admit.ensures)
 
-pub returns-in-err-send-copy-read : goal.returns-in-err-send-copy-read
-returns-in-err-send-copy-read g c =
-    let q = err_from_is_err_and c.from-residual-in-err-send-copy-read.result c.from-residual-in-err-send-copy-read.ensures.1 in
+pub returns-in_err-send_copy_read : goal.returns-in_err-send_copy_read
+returns-in_err-send_copy_read g c =
+    let q = err_from_is_err_and c.from_residual-in_err-send_copy_read.result c.from_residual-in_err-send_copy_read.ensures.1 in
     let s = c.args.self.now in
     let ds = copy_cycles s.part (row_at c.args.destination) in
-    let k = passed g.P.Port s (call.Copy c.args.source c.args.destination) [] c.in-ok-admit.ensures in
-    let e = page_known s.part c.args.source _ k.arguments c.part-or-part.ensures in
-    let xs = copy_read_cycles (Some c.part-or-part.result) s.polls (row_at c.args.source) in
+    let k = passed g.P.Port s (call.Copy c.args.source c.args.destination) [] c.in_ok-admit.ensures in
+    let e = page_known s.part c.args.source _ k.arguments c.part_or-part.ensures in
+    let xs = copy_read_cycles (Some c.part_or-part.result) s.polls (row_at c.args.source) in
     let whole = copy_whole e s.polls (row_at c.args.source) (row_at c.args.destination) in
     rw (q.1, q.2) (called_did k (did_late (λ rs o. copied_by (view_of s) c.args.source c.args.destination o) (enough k) refl (λ rs. refl) (λ rs. refl)
-    (follow_late k xs ds whole c.in-err-send-copy-read.ensures)))
+    (follow_late k xs ds whole c.in_err-send_copy_read.ensures)))
 
-pub returns-in-err-send-copy-program : goal.returns-in-err-send-copy-program
-returns-in-err-send-copy-program g c =
+pub returns-in_err-send_copy_program : goal.returns-in_err-send_copy_program
+returns-in_err-send_copy_program g c =
     let s = c.args.self.now in
     let ds = copy_cycles s.part (row_at c.args.destination) in
-    let k = passed g.P.Port s (call.Copy c.args.source c.args.destination) [] c.in-ok-admit.ensures in
-    let e = page_known s.part c.args.source _ k.arguments c.part-or-part.ensures in
-    let xs = copy_read_cycles (Some c.part-or-part.result) s.polls (row_at c.args.source) in
+    let k = passed g.P.Port s (call.Copy c.args.source c.args.destination) [] c.in_ok-admit.ensures in
+    let e = page_known s.part c.args.source _ k.arguments c.part_or-part.ensures in
+    let xs = copy_read_cycles (Some c.part_or-part.result) s.polls (row_at c.args.source) in
     let whole = copy_whole e s.polls (row_at c.args.source) (row_at c.args.destination) in
-    absurd (follow_cut k xs ds whole c.in-ok-send-copy-read.ensures (cut_as (both copy_cycles e c.row.ensures) c.in-err-send-copy-program.ensures.1))
+    absurd (follow_cut k xs ds whole c.in_ok-send_copy_read.ensures (cut_as (both copy_cycles e c.row.ensures) c.in_err-send_copy_program.ensures.1))
 
 pub returns : goal.returns
 returns g c =
     let s = c.args.self.now in
     let ds = copy_cycles s.part (row_at c.args.destination) in
-    let k = passed g.P.Port s (call.Copy c.args.source c.args.destination) [] c.in-ok-admit.ensures in
-    let e = page_known s.part c.args.source _ k.arguments c.part-or-part.ensures in
-    let xs = copy_read_cycles (Some c.part-or-part.result) s.polls (row_at c.args.source) in
+    let k = passed g.P.Port s (call.Copy c.args.source c.args.destination) [] c.in_ok-admit.ensures in
+    let e = page_known s.part c.args.source _ k.arguments c.part_or-part.ensures in
+    let xs = copy_read_cycles (Some c.part_or-part.result) s.polls (row_at c.args.source) in
     let whole = copy_whole e s.polls (row_at c.args.source) (row_at c.args.destination) in
     called_did k (did_ready (λ rs o. copied_by (view_of s) c.args.source c.args.destination o)
-    (follow_sent k xs ds whole c.in-ok-send-copy-read.ensures (ran_as (both copy_cycles e c.row.ensures) c.in-ok-send-copy-program.ensures))
-    (λ _. ap slip c.program-slip.ensures)
-    (λ _. ap (λ ks. leaving (view_of s) ks (standing.Programming c.args.destination)) c.note-program.ensures))
+    (follow_sent k xs ds whole c.in_ok-send_copy_read.ensures (ran_as (both copy_cycles e c.row.ensures) c.in_ok-send_copy_program.ensures))
+    (λ _. ap slip c.program_slip.ensures)
+    (λ _. ap (λ ks. leaving (view_of s) ks (standing.Programming c.args.destination)) c.note_program.ensures))

@@ -8,31 +8,31 @@ use Rattle.driver.proofs.Calleds.{called_refused, called_did, passed, enough, di
 use Rattle.driver.proofs.Identities.{identity_late, identity_cut, identity_came}
 use Rattle.driver.proofs.session.Session.identify.Goals as goal
 
-pub returns-in-err-admit : goal.returns-in-err-admit
-returns-in-err-admit g c =
-    let q = err_from_is_err_and c.from-residual.result c.from-residual.ensures.1 in
-    rw (q.1, q.2) (called_refused g.P.Port c.args.self.now call.Identify [] c.in-err-admit.ensures)
+pub returns-in_err-admit : goal.returns-in_err-admit
+returns-in_err-admit g c =
+    let q = err_from_is_err_and c.from_residual.result c.from_residual.ensures.1 in
+    rw (q.1, q.2) (called_refused g.P.Port c.args.self.now call.Identify [] c.in_err-admit.ensures)
 
-pub returns-in-err-send-reset : goal.returns-in-err-send-reset
-returns-in-err-send-reset g c =
-    let q = err_from_is_err_and c.from-residual-in-err-send-reset.result c.from-residual-in-err-send-reset.ensures.1 in
+pub returns-in_err-send_reset : goal.returns-in_err-send_reset
+returns-in_err-send_reset g c =
+    let q = err_from_is_err_and c.from_residual-in_err-send_reset.result c.from_residual-in_err-send_reset.ensures.1 in
     let s = c.args.self.now in
-    let k = passed g.P.Port s call.Identify [] c.in-ok-admit.ensures in
-    rw (q.1, q.2) (called_did k (did_late (λ rs o. identified_by (view_of s) (first_of 5 (left s.polls rs)) o) (enough k) refl (λ rs. refl) (λ rs. refl) (identity_late k c.in-err-send-reset.ensures)))
+    let k = passed g.P.Port s call.Identify [] c.in_ok-admit.ensures in
+    rw (q.1, q.2) (called_did k (did_late (λ rs o. identified_by (view_of s) (first_of 5 (left s.polls rs)) o) (enough k) refl (λ rs. refl) (λ rs. refl) (identity_late k c.in_err-send_reset.ensures)))
 
-pub returns-in-err-bytes : goal.returns-in-err-bytes
-returns-in-err-bytes g c =
-    let k = passed g.P.Port c.args.self.now call.Identify [] c.in-ok-admit.ensures in
-    absurd (identity_cut k c.in-ok-send-reset.ensures c.in-err-bytes.ensures.1)
+pub returns-in_err-bytes : goal.returns-in_err-bytes
+returns-in_err-bytes g c =
+    let k = passed g.P.Port c.args.self.now call.Identify [] c.in_ok-admit.ensures in
+    absurd (identity_cut k c.in_ok-send_reset.ensures c.in_err-bytes.ensures.1)
 
 pub returns-in-Some : goal.returns-in-Some
 returns-in-Some g c =
-    let k = passed g.P.Port c.args.self.now call.Identify [] c.in-ok-admit.ensures in
-    let l : length c.in-ok-bytes.bytes ≡ 5 = omega arith in
-    identity_came k c.in-ok-send-reset.ensures c.in-ok-bytes.bytes (Some c.in-Some.part) l c.in-Some.ensures.value refl refl c.in-ok-bytes.ensures
+    let k = passed g.P.Port c.args.self.now call.Identify [] c.in_ok-admit.ensures in
+    let l : length c.in_ok-bytes.bytes ≡ 5 = omega arith in
+    identity_came k c.in_ok-send_reset.ensures c.in_ok-bytes.bytes (Some c.in-Some.part) l c.in-Some.ensures.value refl refl c.in_ok-bytes.ensures
 
 pub returns-in-None : goal.returns-in-None
 returns-in-None g c =
-    let k = passed g.P.Port c.args.self.now call.Identify [] c.in-ok-admit.ensures in
-    let l : length c.in-ok-bytes.bytes ≡ 5 = omega arith in
-    identity_came k c.in-ok-send-reset.ensures c.in-ok-bytes.bytes None l c.in-None.ensures.value refl refl c.in-ok-bytes.ensures
+    let k = passed g.P.Port c.args.self.now call.Identify [] c.in_ok-admit.ensures in
+    let l : length c.in_ok-bytes.bytes ≡ 5 = omega arith in
+    identity_came k c.in_ok-send_reset.ensures c.in_ok-bytes.bytes None l c.in-None.ensures.value refl refl c.in_ok-bytes.ensures

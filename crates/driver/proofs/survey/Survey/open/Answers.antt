@@ -11,5 +11,5 @@ with n ks = record { part = None; polls = n; blocks = ks; standing = standing.Re
 pub returns : goal.returns
 returns g c = record {
   port = refl;
-  view = ap (λ n. with n c.new.result.blocks) c.poll-count.ensures ∙ ap (λ ks. with (poll_count c.args.polls) ks) c.new.ensures;
+  view = ap (λ n. with n c.new.result.blocks) c.poll_count.ensures ∙ ap (λ ks. with (poll_count c.args.polls) ks) c.new.ensures;
 }

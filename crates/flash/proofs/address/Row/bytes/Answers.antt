@@ -9,7 +9,7 @@ loop-byte-init g c = (ap (λ n. low_bytes n c.args.self.number) (omega arith), l
 
 pub loop-byte-preserved : goal.loop-byte-preserved
 loop-byte-preserved g c = (
-  bytes_more g.row.N c.loop-byte.byte-index c.loop-byte.rest c.low-byte.result c.loop-byte.byte-items c.low-byte.ensures (omega arith) c.loop-byte.invariant.1 ∙ c.loop-byte.invariant.0,
+  bytes_more g.row.N c.loop-byte.byte-index c.loop-byte.rest c.low_byte.result c.loop-byte.byte-items c.low_byte.ensures (omega arith) c.loop-byte.invariant.1 ∙ c.loop-byte.invariant.0,
   search rules,
 )
 

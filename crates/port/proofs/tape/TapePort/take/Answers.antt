@@ -6,6 +6,6 @@ use Rattle.port.proofs.tape.TapePort.take.Goals as goal
 
 pub returns : goal.returns
 returns c =
-    let wrote : Wrote c.args.self.now c.write.new.self (gave c.take-reply-byte.result) (one_more c.args.self.now.used) =
-    used_wrote c.take-reply-byte.ensures.kept c.write.ensures in
-    record { steps = tape_wrote wrote (omega arith); writes = (c.take-reply-byte.ensures.reply, wrote) }
+    let wrote : Wrote c.args.self.now c.write.new.self (gave c.take_reply-byte.result) (one_more c.args.self.now.used) =
+    used_wrote c.take_reply-byte.ensures.kept c.write.ensures in
+    record { steps = tape_wrote wrote (omega arith); writes = (c.take_reply-byte.ensures.reply, wrote) }

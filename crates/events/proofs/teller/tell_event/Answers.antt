@@ -9,7 +9,7 @@ returns-in-Some c =
     ∙ (map_push thing (vec_items c.args.events.now) c.in-Some.event
     ∙ ap (λ e. map thing (vec_items c.args.events.now) ++ listed e) (sym c.in-Some.is))
 
-pub returns-in-default : goal.returns-in-default
-returns-in-default c =
+pub returns-in_default : goal.returns-in_default
+returns-in_default c =
     sym (append-nil (map thing (vec_items c.args.events.now)))
-    ∙ ap (λ e. map thing (vec_items c.args.events.now) ++ listed e) (sym c.in-default.is)
+    ∙ ap (λ e. map thing (vec_items c.args.events.now) ++ listed e) (sym c.in_default.is)

@@ -6,6 +6,6 @@ use Rattle.chip.proofs.cells.hold_bytes.Goals as goal
 pub returns : goal.returns
 returns c i =
     ⊎_elim
-    (λ l. rw (get_or_default c.args.cells.now i 0xFF 0 l) (c.type-inv.cells i).fits)
+    (λ l. rw (get_or_default c.args.cells.now i 0xFF 0 l) (c.type_inv.cells i).fits)
     (λ l. rw (get_or_past c.args.cells.now i 0xFF l) (omega arith))
     (cases_lt i (length c.args.cells.now))

@@ -1,23 +1,19 @@
 -- An address on the bus, byte by byte.
-use Rattle.std.proofs.Common.{◌≡◌, ℕ, zero, suc, ◌+◌, ◌*◌, ◌/◌, ◌%◌, ◌<◌, ◌≤◌, Bool, true, false, cond, ◌&&◌, ltb, List, [], ◌∷◌, ◌++◌, map, length, Some, None, Option, sym, refl, ap, ◌∙◌, subst, arith}
+use Rattle.std.proofs.Common.{◌≡◌, ℕ, ◌*◌, ◌/◌, ◌%◌, ◌<◌, ◌≤◌, true, false, cond, ltb, List, [], ◌∷◌, map, Some, refl, ap, ◌∙◌, arith}
 use Rattle.std.proofs.lemmas.Bool.{lt-ltb}
 use Rattle.flash.specs.declared.address.Column.{Column}
 use Rattle.flash.specs.declared.address.Row.{Row}
-use Rattle.flash.specs.declared.opcode.Opcode.{Opcode}
-use Rattle.flash.specs.declared.opcode.Opcode.TheVariants as op
 use Rattle.flash.specs.declared.part.Part.{Part}
 use Rattle.flash.specs.declared.part.Part.TheVariants.{OneGbit, TwoGbit}
 use Rattle.flash.specs.Parts.{blocks_of, address_cycles}
 use Rattle.flash.specs.Addresses.{block_of, column_of, row_of}
-use Rattle.bus.specs.Acts.{act_of, when, in_chain, row_in, column_in, nameable}
-use Rattle.bus.specs.Bus.{Reader, done}
-use Rattle.bus.specs.States.{cycles_in, quiet, idle, closed, nothing_given, column_skipped, plus}
-use Rattle.bus.specs.declared.act.Act.{Act}
+use Rattle.bus.specs.Acts.{when, in_chain, row_in, column_in, nameable}
+use Rattle.bus.specs.Bus.{Reader}
+use Rattle.bus.specs.States.{cycles_in, nothing_given, plus}
 use Rattle.bus.specs.declared.act.Act.TheVariants as act
 use Rattle.bus.specs.declared.state.Given.{Given}
 use Rattle.bus.specs.declared.state.Setup.{Setup}
 use Rattle.bus.specs.declared.state.Setup.TheVariants as setup
-use Rattle.bus.specs.declared.state.Phase.{Phase}
 use Rattle.bus.specs.declared.state.Phase.TheVariants as phase
 use Rattle.bus.specs.declared.state.Register.{Register}
 use Rattle.bus.specs.declared.state.Register.TheVariants as register

@@ -1,5 +1,5 @@
 -- Erases, programs and reads on the bus, from the command that begins them to the confirm.
-use Rattle.std.proofs.Common.{◌≡◌, ℕ, zero, suc, ◌+◌, ◌*◌, ◌/◌, ◌%◌, ◌<◌, ◌≤◌, Bool, true, false, cond, ◌&&◌, ltb, List, [], ◌∷◌, ◌++◌, map, length, Some, None, Option, sym, refl, ap, ◌∙◌, subst, append_assoc, append-nil, arith}
+use Rattle.std.proofs.Common.{◌≡◌, ℕ, ◌+◌, ◌*◌, ◌<◌, ◌≤◌, Bool, true, ltb, List, [], ◌∷◌, ◌++◌, map, length, Some, None, Option, sym, refl, ap, ◌∙◌, subst, append_assoc, append-nil, arith}
 use Rattle.std.proofs.lemmas.Bool.{lt-ltb}
 use Rattle.flash.specs.declared.address.Column.{Column}
 use Rattle.flash.specs.declared.address.Row.{Row}
@@ -7,28 +7,23 @@ use Rattle.flash.specs.declared.cycle.Cycle.{Cycle}
 use Rattle.flash.specs.declared.opcode.Opcode.{Opcode}
 use Rattle.flash.specs.declared.opcode.Opcode.TheVariants as op
 use Rattle.flash.specs.declared.part.Part.{Part}
-use Rattle.flash.specs.declared.part.Part.TheVariants.{OneGbit, TwoGbit}
-use Rattle.flash.specs.Parts.{blocks_of, address_cycles}
-use Rattle.flash.specs.Addresses.{block_of, column_of, row_of}
-use Rattle.bus.specs.Acts.{act_of, when, loading, in_chain, row_in, column_in, nameable}
-use Rattle.bus.specs.Bus.{Reader, done}
-use Rattle.bus.specs.States.{cycles_in, quiet, idle, closed, copy_up, nothing_given, column_skipped, plus}
-use Rattle.bus.specs.declared.act.Act.{Act}
+use Rattle.flash.specs.Parts.{blocks_of}
+use Rattle.flash.specs.Addresses.{block_of}
+use Rattle.bus.specs.Acts.{act_of, loading, in_chain}
+use Rattle.bus.specs.Bus.{Reader}
+use Rattle.bus.specs.States.{quiet, closed, copy_up, nothing_given, column_skipped}
 use Rattle.bus.specs.declared.act.Act.TheVariants as act
-use Rattle.bus.specs.declared.state.Given.{Given}
-use Rattle.bus.specs.declared.state.Setup.{Setup}
 use Rattle.bus.specs.declared.state.Setup.TheVariants as setup
 use Rattle.bus.specs.declared.state.Phase.{Phase}
 use Rattle.bus.specs.declared.state.Phase.TheVariants as phase
-use Rattle.bus.specs.declared.state.Register.{Register}
 use Rattle.bus.specs.declared.state.Register.TheVariants as register
-use Rattle.flash.specs.Addresses.{in_page, next_column}
+use Rattle.flash.specs.Addresses.{next_column}
 use Rattle.bus.specs.declared.act.Confirm.{Confirm}
 use Rattle.bus.specs.declared.act.Confirm.TheVariants as confirm
 use Rattle.bus.specs.declared.state.Busy.TheVariants as busy
 use Rattle.events.specs.Events.{place}
 use Rattle.commands.specs.Polls.{command}
-use Rattle.commands.specs.Sequences.{first_column, address_byte, data_byte, row_bytes, addressed, confirming, erase_cycles, program_cycles, copy_cycles}
+use Rattle.commands.specs.Sequences.{first_column, data_byte, addressed, confirming, erase_cycles, program_cycles, copy_cycles}
 use Rattle.calls.specs.Afters.{move_to, after_erase, after_program, after_open}
 use Rattle.calls.specs.Deeds.{Deed, erase, program, read}
 use Rattle.calls.proofs.Addresses.{row_runs, address_runs, address_read}

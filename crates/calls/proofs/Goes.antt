@@ -3,7 +3,7 @@ use Rattle.std.proofs.Common.{◌≡◌, ℕ, ◌+◌, ◌≤◌, min, Bool, tru
 use mathlib.Core.List.{foldl-append}
 use Rattle.flash.specs.declared.cycle.Cycle.{Cycle}
 use Rattle.bus.specs.Acts.{act_of}
-use Rattle.bus.specs.Bus.{Reader, done, step, steps, moved, concerns, changed, changed_at, breaches_of, counted}
+use Rattle.bus.specs.Bus.{Reader, done, step, moved, concerns, changed, changed_at, breaches_of, counted}
 use Rattle.bus.specs.Breaches.{named, how_many}
 use Rattle.bus.specs.States.{blocks_in}
 use Rattle.bus.specs.declared.act.Act.{Act}

@@ -1,5 +1,5 @@
 -- A call puts no more than its most cycles.
-use Rattle.std.proofs.Common.{◌≡◌, ℕ, zero, suc, ◌+◌, ◌-◌, ◌≤◌, Bool, true, false, cond, List, [], ◌∷◌, ◌++◌, map, length, Some, None, Option, refl, ap, ◌∙◌, arith, length-append}
+use Rattle.std.proofs.Common.{◌≡◌, ℕ, zero, suc, ◌+◌, ◌≤◌, Bool, true, false, cond, List, [], ◌∷◌, ◌++◌, length, Some, None, Option, refl, arith, length-append}
 use Rattle.std.proofs.lemmas.List.{length-map}
 use Rattle.flash.specs.declared.address.Column.{Column}
 use Rattle.flash.specs.declared.address.Row.{Row}
@@ -12,10 +12,9 @@ use Rattle.flash.specs.Statuses.{ready}
 use Rattle.flash.specs.Addresses.{row_at}
 use Rattle.bus.specs.declared.act.Confirm.{Confirm}
 use Rattle.bus.specs.declared.act.Confirm.TheVariants as confirm
-use Rattle.port.specs.Meanings.{gave}
-use Rattle.commands.specs.Polls.{command, polled, taken, left, first_of, poll_cycles}
-use Rattle.commands.specs.Sequences.{address_byte, data_byte, row_bytes, address_bytes, addressed, first_column, reset_cycles, identity_cycles, erase_cycles, program_cycles, copy_cycles, open_cycles, out_cycles, read_cycles, copy_read_cycles}
-use Rattle.calls.specs.Table.{mark_column, block_row, chain_page, once_ready, cycles, row_count, address_count, poll_count, open_count, most, WithinMost}
+use Rattle.commands.specs.Polls.{polled, taken, left, poll_cycles}
+use Rattle.commands.specs.Sequences.{row_bytes, addressed, first_column, reset_cycles, identity_cycles, erase_cycles, program_cycles, copy_cycles, open_cycles, out_cycles, read_cycles, copy_read_cycles}
+use Rattle.calls.specs.Table.{mark_column, block_row, chain_page, once_ready, row_count, address_count, poll_count, open_count, WithinMost}
 use Rattle.calls.specs.declared.call.Call.{Call}
 use Rattle.calls.specs.declared.call.Call.TheVariants as call
 use Rattle.calls.proofs.Tables.{first_length}

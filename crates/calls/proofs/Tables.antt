@@ -1,26 +1,15 @@
 -- Every call of the table: what is told of its cycles, and the reader after them.
-use Rattle.std.proofs.Common.{◌≡◌, ℕ, zero, suc, ◌+◌, ◌*◌, ◌/◌, ◌%◌, ◌<◌, ◌≤◌, Bool, true, false, cond, ◌&&◌, ltb, List, [], ◌∷◌, ◌++◌, map, length, Some, None, Option, sym, refl, ap, ◌∙◌, subst, append_assoc, append-nil, arith}
-use Rattle.std.proofs.lemmas.Bool.{lt-ltb}
+use Rattle.std.proofs.Common.{◌≡◌, ℕ, zero, suc, ◌+◌, ◌*◌, ◌/◌, ◌%◌, ◌<◌, ◌≤◌, Bool, true, false, List, [], ◌∷◌, ◌++◌, map, length, Some, None, Option, refl, ap, ◌∙◌, subst, arith}
 use Rattle.flash.specs.declared.address.Column.{Column}
 use Rattle.flash.specs.declared.address.Row.{Row}
 use Rattle.flash.specs.declared.cycle.Cycle.{Cycle}
-use Rattle.flash.specs.declared.opcode.Opcode.{Opcode}
 use Rattle.flash.specs.declared.opcode.Opcode.TheVariants as op
 use Rattle.flash.specs.declared.part.Part.{Part}
-use Rattle.flash.specs.declared.part.Part.TheVariants.{OneGbit, TwoGbit}
-use Rattle.flash.specs.Parts.{blocks_of, address_cycles}
-use Rattle.flash.specs.Addresses.{block_of, column_of, row_of}
-use Rattle.bus.specs.Acts.{act_of, when, output, in_chain, row_in, column_in, nameable}
-use Rattle.bus.specs.Bus.{Reader, done, at}
-use Rattle.bus.specs.States.{cycles_in, quiet, idle, closed, copy_up, nothing_given, column_skipped, plus}
-use Rattle.bus.specs.declared.act.Act.{Act}
+use Rattle.flash.specs.Parts.{blocks_of}
+use Rattle.bus.specs.Acts.{in_chain}
+use Rattle.bus.specs.Bus.{Reader}
+use Rattle.bus.specs.States.{idle, copy_up}
 use Rattle.bus.specs.declared.act.Act.TheVariants as act
-use Rattle.bus.specs.declared.state.Given.{Given}
-use Rattle.bus.specs.declared.state.Setup.{Setup}
-use Rattle.bus.specs.declared.state.Setup.TheVariants as setup
-use Rattle.bus.specs.declared.state.Phase.{Phase}
-use Rattle.bus.specs.declared.state.Phase.TheVariants as phase
-use Rattle.bus.specs.declared.state.Register.{Register}
 use Rattle.bus.specs.declared.state.Register.TheVariants as register
 use Rattle.flash.specs.Addresses.{row_at}
 use Rattle.flash.specs.Statuses.{ready}
@@ -33,9 +22,9 @@ use Rattle.bus.specs.declared.state.Busy.TheVariants as busy
 use Rattle.events.specs.Events.{place}
 use Rattle.port.specs.Meanings.{gave}
 use Rattle.commands.specs.Polls.{command, polled, left, first_of, poll_cycles}
-use Rattle.commands.specs.Sequences.{first_column, open_cycles, out_cycles, read_cycles, program_cycles, copy_cycles, identity_cycles, reset_cycles}
+use Rattle.commands.specs.Sequences.{first_column, out_cycles, read_cycles, program_cycles, copy_cycles, identity_cycles, reset_cycles}
 use Rattle.calls.specs.Table.{mark_column, block_row, chain_page, once_ready, cycles}
-use Rattle.calls.specs.Afters.{move_to, asked, after_poll, after_reset, after_open, after_bytes, after_program, after_identity, if_ready, after}
+use Rattle.calls.specs.Afters.{after_poll, after_reset, after_open, after_bytes, after_program, after_identity, if_ready, after}
 use Rattle.calls.specs.Deeds.{Deed, reset, identity, read, out, erase, program}
 use Rattle.calls.specs.Told.{place_in, deeds_if_ready, call_deeds, InPart, Span, Fits, Rests, Chains, Begins}
 use Rattle.calls.specs.declared.call.Call.{Call}
@@ -43,7 +32,7 @@ use Rattle.calls.specs.declared.call.Call.TheVariants as call
 use Rattle.calls.proofs.Polled.{poll_runs, ends_ready, Readied, readied}
 use Rattle.calls.proofs.Confirmed.{Calm, no_chain, GivenBytes, erase_runs, open_runs, program_runs, copy_runs}
 use Rattle.calls.proofs.Outputs.{bytes_run, identity_runs}
-use Rattle.calls.proofs.Goes.{Runs, runs_none, runs_then, runs_to, runs_one}
+use Rattle.calls.proofs.Goes.{Runs, runs_none, runs_then, runs_one}
 
 -- a page's row, and back
 row_in_part : (p : Part) (g : Page) → InPart (Some p) g → (row_at g).number < 64 * blocks_of p

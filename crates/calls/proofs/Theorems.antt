@@ -7,7 +7,7 @@ use Rattle.events.specs.Events.{Telling, follow, follows}
 use Rattle.calls.specs.Afters.{after}
 use Rattle.calls.specs.Deeds.{at_rest}
 use Rattle.calls.specs.Table.{cycles}
-use Rattle.calls.specs.Told.{Told, ToldBack, Fits, Rests, Chains, Begins}
+use Rattle.calls.specs.Told.{Told, ToldBack, Fits, Rests, Begins}
 use Rattle.calls.specs.declared.call.Call.{Call}
 use Rattle.calls.specs.declared.call.Call.TheVariants as call
 use Rattle.calls.proofs.Goes.{telling}

@@ -1,5 +1,5 @@
 -- The bus reader tells a call from its cycles.
-use Rattle.std.specs.Prelude.{◌≡◌, ℕ, ◌+◌, ◌<◌, ◌≤◌, Bool, true, false, List, [], ◌∷◌, ◌++◌, map, length, Some, None, Option}
+use Rattle.std.specs.Prelude.{◌≡◌, ℕ, ◌+◌, ◌<◌, ◌≤◌, true, false, List, [], ◌∷◌, map, length, Some, None, Option}
 use Rattle.flash.specs.Addresses.{row_at}
 use Rattle.flash.specs.declared.address.Column.{Column}
 use Rattle.flash.specs.declared.page.Page.{Page}
@@ -7,7 +7,6 @@ use Rattle.flash.specs.declared.part.Part.{Part}
 use Rattle.bus.specs.Bus.{Reader, steps}
 use Rattle.bus.specs.States.{blocks_in, quiet, idle, closed}
 use Rattle.bus.specs.Acts.{in_chain}
-use Rattle.bus.specs.declared.act.Confirm.{Confirm}
 use Rattle.bus.specs.declared.act.Confirm.TheVariants as confirm
 use Rattle.events.specs.Events.{Place, Telling, events}
 use Rattle.commands.specs.Polls.{polled, left, first_of}

@@ -1,6 +1,5 @@
 -- A chip's bus hears of no other part: the chip answers its own identity.
-use Rattle.std.proofs.Common.{◌≡◌, ℕ, ◌<◌, ◌≤◌, Bool, true, false, cond, ◌&&◌, eqb, ltb, List, Some, None, Option, sym, refl, ap, ◌∙◌, arith}
-use Rattle.std.proofs.lemmas.Bool.Decides.{nat_tests}
+use Rattle.std.proofs.Common.{◌≡◌, ℕ, ◌≤◌, Bool, true, false, cond, ◌&&◌, eqb, ltb, List, Some, None, Option, refl, arith}
 use Rattle.std.proofs.lemmas.Bool.{and_from, and_parts, ltb-true, ltb-false}
 use Rattle.flash.specs.Addresses.{block_of, in_page}
 use Rattle.flash.specs.Opcodes.{opcode_of}
@@ -25,7 +24,6 @@ use Rattle.port.specs.Meanings.{host_kind, driven, gave}
 use Rattle.port.specs.declared.port.HostCycle.{HostCycle}
 use Rattle.port.specs.declared.port.HostKind.{HostKind}
 use Rattle.port.specs.declared.port.HostKind.TheVariants as host
-use Rattle.bus.specs.declared.state.Given.{Given}
 use Rattle.bus.specs.declared.state.Phase.{Phase}
 use Rattle.bus.specs.declared.state.Phase.TheVariants as phase
 use Rattle.bus.specs.declared.state.Register.{Register}

@@ -1,5 +1,5 @@
 -- A model chip keeps the contract of a port.
-use Rattle.std.proofs.Common.{◌≡◌, ℕ, ◌+◌, ◌-◌, ◌<◌, ◌≤◌, Bool, true, false, cond, ◌&&◌, leb, List, [], ◌∷◌, ◌++◌, length, replicate, None, sym, refl, ap, ◌∙◌, subst, arith}
+use Rattle.std.proofs.Common.{◌≡◌, ℕ, ◌+◌, ◌-◌, ◌≤◌, Bool, true, false, cond, ◌&&◌, leb, List, ◌++◌, length, replicate, sym, refl, ap, ◌∙◌, subst, arith}
 use Rattle.std.proofs.lemmas.Bool.{and_from, and_parts, leb-true}
 use Rattle.std.proofs.lemmas.List.{length-replicate, replicate-append-replicate}
 use Rattle.flash.specs.Parts.{blocks_of}
@@ -7,7 +7,7 @@ use Rattle.flash.specs.Records.{first_record}
 use Rattle.flash.specs.declared.cycle.Cycle.{Cycle}
 use Rattle.flash.specs.declared.part.Part.{Part}
 use Rattle.bus.specs.Acts.{act_of}
-use Rattle.bus.specs.Bus.{Reader, step, moved, filled, first}
+use Rattle.bus.specs.Bus.{Reader, step, moved, filled}
 use Rattle.bus.specs.Readers.{held, meant}
 use Rattle.bus.specs.States.{blocks_in, first_bus}
 use Rattle.bus.specs.declared.state.BusState.{BusState}

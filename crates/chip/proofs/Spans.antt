@@ -20,7 +20,7 @@ use Rattle.bus.specs.declared.state.BusState.{BusState}
 use Rattle.bus.specs.declared.state.Busy.TheVariants as busy
 use Rattle.bus.specs.declared.state.Phase.TheVariants as phase
 use Rattle.bus.specs.declared.state.Setup.TheVariants as setup
-use Rattle.chip.specs.Cells.{cell_at, cell_of, read_at, among, altered, anded, blank_page, row_programmed}
+use Rattle.chip.specs.Cells.{cell_at, cell_of, read_at, among, anded, blank_page, row_programmed}
 use Rattle.chip.specs.Chips.{Chip, chip_step, chip_steps}
 use Rattle.chip.specs.Kept.{ProgramsKept, CopiesKept, HeldAfter}
 use Rattle.chip.proofs.Alterations.{altered_else}

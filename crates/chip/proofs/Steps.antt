@@ -1,25 +1,20 @@
 -- One cycle on a chip: its memory, the number of its records, and that it hears of no other part.
-use Rattle.std.proofs.Common.{◌≡◌, ℕ, zero, suc, ◌+◌, ◌<◌, ◌≤◌, Bool, true, false, cond, ◌&&◌, eqb, ltb, leb, List, [], ◌∷◌, length, get_or, set, Some, None, Option, sym, refl, ap, ◌∙◌, arith, length-set}
-use Rattle.std.proofs.lemmas.Bool.Decides.{nat_tests}
+use Rattle.std.proofs.Common.{◌≡◌, ℕ, zero, suc, ◌+◌, ◌<◌, ◌≤◌, Bool, true, false, cond, ltb, List, length, set, Some, None, Option, refl, ap, ◌∙◌, arith, length-set}
 use Rattle.std.proofs.lemmas.Bool.{and_from, and_parts, lt-ltb, ltb-true}
 use Rattle.std.proofs.lemmas.Slice.Eq.{bytes_eq-Decides}
-use Rattle.std.specs.Str.{bytes_eq}
-use Rattle.flash.specs.Parts.{blocks_of, identity_of, identified}
+use Rattle.flash.specs.Parts.{identity_of}
 use Rattle.flash.specs.declared.cycle.Cycle.{Cycle}
-use Rattle.flash.specs.declared.cycle.Kind.TheVariants.{DataOut}
 use Rattle.flash.specs.declared.part.Part.{Part}
 use Rattle.flash.specs.declared.part.Part.TheVariants.{OneGbit, TwoGbit}
 use Rattle.flash.specs.declared.record.BlockRecord.{BlockRecord}
 use Rattle.bus.specs.Acts.{act_of}
-use Rattle.bus.specs.Bus.{Reader, step, changed_at, concerns, changed, moved}
-use Rattle.bus.specs.States.{blocks_in, plus, nothing_given}
+use Rattle.bus.specs.Bus.{Reader, step, changed_at, concerns, changed}
+use Rattle.bus.specs.States.{blocks_in, plus}
 use Rattle.bus.specs.declared.act.Act.{Act}
 use Rattle.bus.specs.declared.act.Act.TheVariants as act
 use Rattle.bus.specs.declared.state.BusState.{BusState}
 use Rattle.bus.specs.declared.state.Given.{Given}
-use Rattle.bus.specs.declared.state.Phase.{Phase}
-use Rattle.bus.specs.declared.state.Phase.TheVariants as phase
-use Rattle.chip.specs.Chips.{Memory, remembers, cells_after, page_after, status_after, identity_byte, heard, own_given, own_part, own_phase, own}
+use Rattle.chip.specs.Chips.{Memory, remembers, cells_after, page_after, status_after, identity_byte, heard, own_given}
 
 -- a program takes the page as it is, so the buffer may be changed first
 cells_page : (u : BusState) (a : Act) (cells page : List ℕ) → cells_after a (page_after u a cells page) cells ≡ cells_after a page cells

@@ -203,28 +203,34 @@ fn check_with_room(
     sequence: Sequence,
     expected: &Expected,
     room: usize,
+    at: &str,
 ) -> Result<(), Fail> {
     let mut places = vec![in heap; NOTHING; room]?;
     let replies = bytes_out(heap, expected.cycles.as_slice())?;
     let mut gives = vec![in heap; UNREAD; expected.gives.len()]?;
     let mut tape = Tape::new(places.as_mut_slice(), replies.as_slice());
     let sent = send(&mut tape, part, polls, sequence, gives.as_mut_slice());
-    assert_eq!(rt; tape.written().len(), room.min(expected.cycles.len()));
+    assert_eq!(rt;
+        tape.written().len(),
+        room.min(expected.cycles.len()),
+        "{}",
+        at
+    );
     for (written, cycle) in tape.written().iter().zip(expected.cycles.iter()) {
-        assert_eq!(rt; number(*written), number(*cycle));
+        assert_eq!(rt; number(*written), number(*cycle), "{}", at);
     }
     if room < expected.cycles.len() {
-        assert_eq!(rt; fault_number(sent), 13);
-        assert_eq!(rt; fault_page(sent), None);
+        assert_eq!(rt; fault_number(sent), 13, "{}", at);
+        assert_eq!(rt; fault_page(sent), None, "{}", at);
         return Ok(());
     }
-    assert_eq!(rt; gives.as_slice(), expected.gives.as_slice());
+    assert_eq!(rt; gives.as_slice(), expected.gives.as_slice(), "{}", at);
     if expected.timeout {
-        assert_eq!(rt; fault_number(sent), 14);
-        assert_eq!(rt; fault_page(sent), sequence.page());
+        assert_eq!(rt; fault_number(sent), 14, "{}", at);
+        assert_eq!(rt; fault_page(sent), sequence.page(), "{}", at);
         Ok(())
     } else {
-        assert_eq!(rt; fault_number(sent), 0);
+        assert_eq!(rt; fault_number(sent), 0, "{}", at);
         Ok(())
     }
 }
@@ -239,10 +245,18 @@ fn check_rooms(
 ) -> Result<(), Fail> {
     let Wait(polls, poll_cycles, _) = wait;
     let expected = expected_of(heap, sequence, text, wait)?;
+    let at = format!(in heap; "{text}, polled {poll_cycles}")?;
     for room in 0..expected.cycles.len().saturating_add(3) {
-        check_with_room(rt, heap, part, polls, sequence, &expected, room)
-            .note(text)
-            .note(poll_cycles)?;
+        check_with_room(
+            rt,
+            heap,
+            part,
+            polls,
+            sequence,
+            &expected,
+            room,
+            at.as_str(),
+        )?;
     }
     Ok(())
 }

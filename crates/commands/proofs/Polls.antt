@@ -1,5 +1,5 @@
 -- The replies to a poll, taken one by one.
-use Rattle.std.proofs.Common.{◌≡◌, ℕ, zero, suc, ◌+◌, ◌<◌, ◌≤◌, Bool, true, false, cond, List, [], ◌∷◌, ◌++◌, length, is_some, Some, None, Option, refl, ap, arith}
+use Rattle.std.proofs.Common.{◌≡◌, ℕ, zero, suc, ◌<◌, Bool, true, false, List, [], ◌∷◌, ◌++◌, length, is_some, Some, None, refl, ap, arith}
 use Rattle.std.specs.List.{AllByRecursion as All}
 use Rattle.flash.specs.Statuses.{ready}
 use Rattle.commands.specs.Polls.{polled, taken, left, first_of}

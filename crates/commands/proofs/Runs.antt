@@ -1,5 +1,5 @@
 -- What went over a port, put together.
-use Rattle.std.proofs.Common.{◌≡◌, ℕ, zero, suc, ◌+◌, ◌<◌, ◌≤◌, List, [], ◌∷◌, ◌++◌, map, length, get_or, take, set, None, Option, sym, refl, ap, ◌∙◌, subst, inl, inr, ⊎_elim, append-nil, arith, length-append}
+use Rattle.std.proofs.Common.{◌≡◌, ℕ, suc, ◌+◌, ◌<◌, ◌≤◌, List, [], ◌∷◌, ◌++◌, map, length, get_or, take, set, None, Option, sym, ap, ◌∙◌, subst, inl, inr, ⊎_elim, append-nil, arith, length-append}
 use mathlib.Core.List.{map-append}
 use Rattle.std.proofs.lemmas.List.{take_more, take_more_set, take_all, take-append-le, take-map, length-map, length-take-le}
 use Rattle.flash.specs.declared.cycle.Cycle.{Cycle}

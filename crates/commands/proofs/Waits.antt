@@ -1,5 +1,5 @@
 -- The loop of a poll: the replies so far are busy, each.
-use Rattle.std.proofs.Common.{◌≡◌, ℕ, ◌+◌, ◌<◌, ◌≤◌, true, List, [], ◌∷◌, ◌++◌, map, length, is_some, Some, None, Option, sym, refl, ap, ◌∙◌, subst, inl, inr, arith, length-append}
+use Rattle.std.proofs.Common.{◌≡◌, ℕ, ◌+◌, ◌<◌, true, List, [], ◌∷◌, ◌++◌, map, length, is_some, Some, None, Option, sym, refl, ap, ◌∙◌, subst, inl, inr, arith, length-append}
 use mathlib.Core.List.{map-append}
 use Rattle.std.proofs.ByRecursion.{All-push}
 use Rattle.std.specs.List.{AllByRecursion as All}
@@ -9,7 +9,7 @@ use Rattle.flash.specs.declared.opcode.Opcode.TheVariants as op
 use Rattle.flash.specs.declared.page.Page.{Page}
 use Rattle.port.specs.Meanings.{Refused, gave}
 use Rattle.port.specs.declared.port.Port.{Ghosts}
-use Rattle.commands.specs.Polls.{command, polled, taken, poll_cycles}
+use Rattle.commands.specs.Polls.{command, polled, poll_cycles}
 use Rattle.commands.specs.Sent.{Ran, Cut, Went, Stopped}
 use Rattle.commands.proofs.Polls.{Busy, ends_ready, never_ends, goes_on}
 use Rattle.commands.proofs.Runs.{ran_none, ran_append, cut_refused, cut_later}

@@ -1,5 +1,5 @@
 -- What a command sequence promises of the port and of its result.
-use Rattle.std.specs.Prelude.{◌≡◌, ℕ, ◌<◌, true, false, ◌⊎◌, List, length, take, is_some, Some, None, Option, Result, MatchResult}
+use Rattle.std.specs.Prelude.{◌≡◌, ℕ, ◌<◌, true, false, ◌⊎◌, List, length, take, is_some, None, Option, Result, MatchResult}
 use Rattle.std.specs.List.{AllByRecursion as All}
 use Rattle.flash.specs.Statuses.{ready}
 use Rattle.flash.specs.declared.cycle.Cycle.{Cycle}

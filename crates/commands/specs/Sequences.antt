@@ -1,5 +1,5 @@
 -- The cycles of each command sequence.
-use Rattle.std.specs.Prelude.{ℕ, ◌-◌, ◌*◌, List, [], ◌∷◌, ◌++◌, map, Some, None, Option}
+use Rattle.std.specs.Prelude.{ℕ, ◌-◌, List, [], ◌∷◌, ◌++◌, map, Some, None, Option}
 use Rattle.flash.specs.Addresses.{low_bytes}
 use Rattle.flash.specs.Parts.{address_cycles}
 use Rattle.flash.specs.declared.address.Column.{Column}

@@ -2,13 +2,13 @@
 use crate::parse::Calls;
 use crate::settings::ChipSetting;
 use crate::show::ShownAnswer;
+use bus_log::line::line_for;
 use chip::model::ModelChip;
 use driver::run::run;
 use driver::script::Answer;
 use flash::cycle::{Cycle, Kind};
 use flash::geometry::MOST_BLOCKS;
 use flash::record::BlockRecord;
-use bus_log::line::line_for;
 use port::tape::Tape;
 use std::alloc::{AllocError, Global};
 use std::io;

@@ -1,39 +1,26 @@
 -- Slips given out and taken back, and what stands after a call, told by calls and answers.
-use Rattle.std.proofs.Common.{◌≡◌, ℕ, zero, suc, ◌+◌, ◌*◌, ◌/◌, ◌%◌, ◌<◌, ◌≤◌, min, Bool, true, false, cond, not, ◌&&◌, ◌||◌, eqb, ltb, leb, ◌⊎◌, List, [], ◌∷◌, length, get_or, is_some, Some, None, Option, sym, refl, ap, ◌∙◌, subst, ⊎_elim, arith}
-use Rattle.std.proofs.lemmas.Bool.{ltb-true, leb-true, eqb-true, and_parts}
+use Rattle.std.proofs.Common.{◌≡◌, ℕ, ◌+◌, ◌<◌, ◌≤◌, Bool, true, false, not, eqb, List, get_or, is_some, Some, None, Option, sym, refl, ap, ◌∙◌, ⊎_elim, arith}
 use Rattle.std.proofs.lemmas.Bool.Decides.{nat_tests}
-use Rattle.flash.specs.Addresses.{row_at, block_of, page_of}
-use Rattle.flash.specs.Records.{first_record, fit, out_of_order, programmed_out}
-use Rattle.flash.specs.Statuses.{ready, verdict_of}
+use Rattle.flash.specs.Records.{first_record}
+use Rattle.flash.specs.Statuses.{verdict_of}
 use Rattle.flash.specs.declared.address.Column.{Column}
-use Rattle.flash.specs.declared.address.Row.{Row}
 use Rattle.flash.specs.declared.fault.Fault.{Fault}
-use Rattle.flash.specs.declared.fault.Fault.TheVariants as fault
 use Rattle.flash.specs.declared.page.Page.{Page}
 use Rattle.flash.specs.declared.part.Part.{Part}
 use Rattle.flash.specs.declared.record.BlockRecord.{BlockRecord}
-use Rattle.flash.specs.declared.record.Mark.{Mark}
 use Rattle.flash.specs.declared.record.Pages.{Pages}
-use Rattle.bus.specs.Bus.{Reader, steps, done}
-use Rattle.bus.specs.States.{blocks_in, allowed_in, quiet, idle, closed, work_of, under_way, known}
-use Rattle.bus.specs.Acts.{in_chain}
-use Rattle.bus.specs.declared.act.Act.TheVariants as act
-use Rattle.bus.specs.declared.act.Confirm.{Confirm}
-use Rattle.bus.specs.declared.act.Confirm.TheVariants as confirm
+use Rattle.bus.specs.Bus.{Reader}
+use Rattle.bus.specs.States.{allowed_in}
 use Rattle.bus.specs.declared.state.Phase.{Phase}
-use Rattle.bus.specs.declared.state.Phase.TheVariants as phase
 use Rattle.bus.specs.declared.state.Busy.{Busy}
-use Rattle.bus.specs.declared.state.Busy.TheVariants as busy
 use Rattle.bus.specs.declared.state.Register.{Register}
-use Rattle.bus.specs.declared.state.Register.TheVariants as register
-use Rattle.record.specs.Judgements.{or_else, unfit, unready}
-use Rattle.calls.specs.Table.{slip_page, chain_page, cycles, most}
-use Rattle.calls.specs.Told.{InPart, Span, Fits, Rests, Chains, Begins}
+use Rattle.record.specs.Judgements.{unfit, unready}
+use Rattle.calls.specs.Table.{slip_page, chain_page, most}
 use Rattle.calls.specs.declared.call.Call.{Call}
 use Rattle.calls.specs.declared.call.Call.TheVariants as call
 use Rattle.driver.specs.Views.{View, block_page, erase_slip, program_slip, chain_slip, slip_out, block_at_work, is_stuck}
 use Rattle.driver.specs.Views as views
-use Rattle.driver.specs.Refusals.{free_fault, reset_fault, is_out, slip_fault, state_fault, block_fault, page_fault, span_fault, page_span_fault, argument_fault, program_fault, record_fault, port_fault, refusal, page_named}
+use Rattle.driver.specs.Refusals.{free_fault, reset_fault, is_out, state_fault, argument_fault, program_fault, record_fault, port_fault, refusal, page_named}
 use Rattle.driver.specs.declared.standing.Standing.{Standing}
 use Rattle.driver.specs.declared.standing.Standing.TheVariants as standing
 use Rattle.flash.specs.Faults.{number_of}
@@ -41,7 +28,6 @@ use Rattle.flash.specs.Parts.{identified}
 use Rattle.flash.specs.declared.status.Verdict.{Verdict}
 use Rattle.flash.specs.declared.status.Verdict.TheVariants as verdict
 use Rattle.commands.specs.Polls.{polled, left, first_of}
-use Rattle.driver.specs.Called.{settle_takes, abandon_takes}
 use Rattle.driver.specs.Laws.{one, given, returned, working, stands_after}
 use Rattle.driver.specs.Outcomes.{Reply, refused, Outcome, named, identified_by, looked, read_by, next_by, last_by, copied_by, verdict_reply, settled_by, reset_by, accepted, outcome_at, outcome}
 use Rattle.driver.proofs.Holds.{reader_at, Works, Held, some_none, or_none, free_ready, slip_out_lem}

@@ -1,23 +1,18 @@
 -- The loop of a run.
-use Rattle.std.proofs.Common.{◌≡◌, ℕ, ◌+◌, ◌<◌, ◌≤◌, Bool, true, false, cond, List, [], ◌∷◌, ◌++◌, map, length, get_or, take, replicate, None, sym, refl, ap, ◌∙◌, subst, append_assoc, append-nil, arith}
+use Rattle.std.proofs.Common.{◌≡◌, ℕ, List, [], ◌∷◌, ◌++◌, map, replicate, None, sym, refl, ap, ◌∙◌, subst}
 use mathlib.Core.List.{foldl, foldl-append, map-append}
-use Rattle.std.proofs.lemmas.List.{take_more, take_all, length-map, length-append, take-map, length-take-le}
 use Rattle.flash.specs.Records.{first_record}
-use Rattle.bus.specs.Bus.{Reader, first}
+use Rattle.bus.specs.Bus.{first}
 use Rattle.bus.specs.declared.state.Busy.TheVariants as busy
 use Rattle.bus.specs.declared.state.Phase.TheVariants as phase
 use Rattle.bus.specs.declared.state.Register.TheVariants as register
-use Rattle.port.specs.Meanings.{Meaning}
 use Rattle.port.specs.declared.port.Port.{Ghosts}
 use Rattle.calls.specs.declared.call.Call.{Call}
-use Rattle.driver.specs.Called.{view_of, Called}
-use Rattle.driver.specs.Outcomes.{Reply}
-use Rattle.driver.specs.Scripts.{answer_of, Turned, asked, asked_in, answer_in, Rooms, Followed}
+use Rattle.driver.specs.Called.{view_of}
+use Rattle.driver.specs.Scripts.{Turned, asked_in, answer_in, Rooms}
 use Rattle.driver.specs.Turns.{Stage, surveying, offers, stage_after, answered, not_offered, Turn, Where, begun, advanced, Law, cycles_of}
 use Rattle.driver.specs.Turns as turns
 use Rattle.driver.specs.Views.{View}
-use Rattle.driver.specs.declared.script.Answer.{Answer}
-use Rattle.driver.specs.declared.script.Step.{Step}
 use Rattle.driver.specs.declared.session.Session.{Session}
 use Rattle.driver.specs.declared.standing.Standing.TheVariants as standing
 use Rattle.driver.proofs.Holds.{Held}

@@ -1,23 +1,17 @@
 -- A call is turned away at the record exactly when the reader would count a breach.
-use Rattle.std.proofs.Common.{◌≡◌, ℕ, zero, suc, ◌+◌, ◌*◌, ◌/◌, ◌%◌, ◌<◌, ◌≤◌, min, Bool, true, false, cond, not, ◌&&◌, ◌||◌, eqb, ltb, leb, ◌⊎◌, List, [], ◌∷◌, length, get_or, Some, None, Option, sym, refl, ap, ◌∙◌, subst, inl, inr, ⊎_elim, arith}
-use Rattle.std.proofs.lemmas.Bool.{ltb-true, leb-true, eqb-true, and_parts}
+use Rattle.std.proofs.Common.{◌≡◌, ℕ, ◌+◌, ◌*◌, ◌/◌, ◌%◌, min, Bool, true, false, cond, not, ◌&&◌, ltb, ◌⊎◌, List, [], ◌∷◌, length, get_or, Some, None, Option, sym, refl, ap, ◌∙◌, subst, inl, inr, ⊎_elim, arith}
 use Rattle.std.proofs.lemmas.Bool.Decides.{nat_tests}
-use Rattle.flash.specs.Addresses.{row_at, block_of, page_of}
+use Rattle.flash.specs.Addresses.{row_at}
 use Rattle.flash.specs.Records.{first_record, fit, out_of_order, programmed_out}
-use Rattle.flash.specs.Statuses.{ready, verdict_of}
 use Rattle.flash.specs.declared.address.Column.{Column}
-use Rattle.flash.specs.declared.address.Row.{Row}
 use Rattle.flash.specs.declared.fault.Fault.{Fault}
 use Rattle.flash.specs.declared.fault.Fault.TheVariants as fault
 use Rattle.flash.specs.declared.page.Page.{Page}
 use Rattle.flash.specs.declared.part.Part.{Part}
 use Rattle.flash.specs.declared.record.BlockRecord.{BlockRecord}
-use Rattle.flash.specs.declared.record.Mark.{Mark}
 use Rattle.flash.specs.declared.record.Pages.{Pages}
-use Rattle.bus.specs.Bus.{Reader, steps, done}
-use Rattle.bus.specs.States.{blocks_in, allowed_in, quiet, idle, closed, work_of, under_way, known}
-use Rattle.bus.specs.Acts.{in_chain}
-use Rattle.bus.specs.declared.act.Act.TheVariants as act
+use Rattle.bus.specs.Bus.{Reader, steps}
+use Rattle.bus.specs.States.{allowed_in, closed}
 use Rattle.bus.specs.declared.act.Confirm.{Confirm}
 use Rattle.bus.specs.declared.act.Confirm.TheVariants as confirm
 use Rattle.bus.specs.declared.state.Phase.{Phase}
@@ -27,26 +21,24 @@ use Rattle.bus.specs.declared.state.Busy.TheVariants as busy
 use Rattle.bus.specs.declared.state.Register.{Register}
 use Rattle.bus.specs.declared.state.Register.TheVariants as register
 use Rattle.record.specs.Judgements.{or_else, unfit, unready}
-use Rattle.calls.specs.Table.{slip_page, chain_page, cycles, most}
-use Rattle.calls.specs.Told.{InPart, Span, Fits, Rests, Chains, Begins}
+use Rattle.calls.specs.Table.{chain_page, most}
+use Rattle.calls.specs.Told.{InPart, Fits}
 use Rattle.calls.specs.declared.call.Call.{Call}
 use Rattle.calls.specs.declared.call.Call.TheVariants as call
 use Rattle.driver.specs.Views.{View, block_page, erase_slip, program_slip, chain_slip, slip_out, block_at_work, is_stuck}
 use Rattle.driver.specs.Views as views
-use Rattle.driver.specs.Refusals.{free_fault, reset_fault, is_out, slip_fault, state_fault, block_fault, page_fault, span_fault, page_span_fault, argument_fault, program_fault, record_fault, port_fault, refusal, page_named}
+use Rattle.driver.specs.Refusals.{free_fault, slip_fault, state_fault, page_fault, page_span_fault, argument_fault, program_fault, record_fault, port_fault, refusal, page_named}
 use Rattle.driver.specs.declared.standing.Standing.{Standing}
-use Rattle.driver.specs.declared.standing.Standing.TheVariants as standing
-use Rattle.flash.specs.Faults.{number_of, place_of}
 use Rattle.bus.specs.Breaches.{one}
 use Rattle.commands.specs.Polls.{polled}
 use Rattle.commands.specs.Sequences.{first_column}
-use Rattle.calls.specs.Afters.{after_poll, after_erase, after_program, after_open, after}
+use Rattle.calls.specs.Afters.{after_erase, after_program, after}
 use Rattle.calls.specs.Table.{block_row, ready_cycles}
 use Rattle.calls.proofs.Theorems.{call_leaves}
 use Rattle.driver.specs.Laws.{early, at_record, judged, Exact}
-use Rattle.driver.specs.Outcomes.{Reply, refused, next_by, last_by, copied_by, accepted, outcome_at, outcome}
-use Rattle.driver.proofs.Holds.{reader_at, Works, Held, some_none, or_none, fits, begins, free_ready}
-use Rattle.driver.proofs.Keeps.{row_block, row_page, kept, resting, InChain, in_chain_by, polled_cache, opened}
+use Rattle.driver.specs.Outcomes.{refused, next_by, last_by, copied_by, accepted, outcome_at, outcome}
+use Rattle.driver.proofs.Holds.{reader_at, Held, some_none, fits, begins}
+use Rattle.driver.proofs.Keeps.{row_block, row_page, kept, resting, in_chain_by, polled_cache, opened}
 
 -- ## Blame
 

@@ -1,8 +1,8 @@
 -- The view and the reader agree after every call.
-use Rattle.std.proofs.Common.{◌≡◌, ℕ, zero, suc, ◌+◌, ◌*◌, ◌/◌, ◌%◌, ◌<◌, ◌≤◌, min, Bool, true, false, cond, not, ◌&&◌, ◌||◌, eqb, ltb, leb, List, [], ◌∷◌, length, get_or, Some, None, Option, sym, refl, ap, ◌∙◌, subst, arith}
-use Rattle.std.proofs.lemmas.Bool.{ltb-true, leb-true, eqb-true, and_parts}
+use Rattle.std.proofs.Common.{◌≡◌, ℕ, ◌+◌, ◌*◌, ◌/◌, ◌%◌, Bool, true, false, cond, not, List, length, get_or, Some, None, Option, sym, refl, ap, ◌∙◌, subst, arith}
+use Rattle.std.proofs.lemmas.Bool.{eqb-true}
 use Rattle.std.proofs.lemmas.Bool.Decides.{nat_tests}
-use Rattle.flash.specs.Addresses.{row_at, block_of, page_of}
+use Rattle.flash.specs.Addresses.{row_at}
 use Rattle.flash.specs.Records.{first_record, fit, out_of_order, programmed_out, stale}
 use Rattle.flash.specs.Statuses.{ready, verdict_of}
 use Rattle.flash.specs.declared.address.Column.{Column}
@@ -12,12 +12,9 @@ use Rattle.flash.specs.declared.fault.Fault.TheVariants as fault
 use Rattle.flash.specs.declared.page.Page.{Page}
 use Rattle.flash.specs.declared.part.Part.{Part}
 use Rattle.flash.specs.declared.record.BlockRecord.{BlockRecord}
-use Rattle.flash.specs.declared.record.Mark.{Mark}
 use Rattle.flash.specs.declared.record.Pages.{Pages}
-use Rattle.bus.specs.Bus.{Reader, steps, done}
-use Rattle.bus.specs.States.{blocks_in, allowed_in, quiet, idle, closed, work_of, under_way, known}
-use Rattle.bus.specs.Acts.{in_chain}
-use Rattle.bus.specs.declared.act.Act.TheVariants as act
+use Rattle.bus.specs.Bus.{Reader, steps}
+use Rattle.bus.specs.States.{allowed_in, quiet, closed, known}
 use Rattle.bus.specs.declared.act.Confirm.{Confirm}
 use Rattle.bus.specs.declared.act.Confirm.TheVariants as confirm
 use Rattle.bus.specs.declared.state.Phase.{Phase}
@@ -26,25 +23,25 @@ use Rattle.bus.specs.declared.state.Busy.{Busy}
 use Rattle.bus.specs.declared.state.Busy.TheVariants as busy
 use Rattle.bus.specs.declared.state.Register.{Register}
 use Rattle.bus.specs.declared.state.Register.TheVariants as register
-use Rattle.record.specs.Judgements.{or_else, unfit, unready}
-use Rattle.calls.specs.Table.{slip_page, chain_page, cycles, most}
-use Rattle.calls.specs.Told.{InPart, Span, Fits, Rests, Chains, Begins}
+use Rattle.record.specs.Judgements.{unfit, unready}
+use Rattle.calls.specs.Table.{slip_page, chain_page, cycles}
+use Rattle.calls.specs.Told.{InPart, Fits}
 use Rattle.calls.specs.declared.call.Call.{Call}
 use Rattle.calls.specs.declared.call.Call.TheVariants as call
 use Rattle.driver.specs.Views.{View, block_page, erase_slip, program_slip, chain_slip, slip_out, block_at_work, is_stuck}
 use Rattle.driver.specs.Views as views
-use Rattle.driver.specs.Refusals.{free_fault, reset_fault, is_out, slip_fault, state_fault, block_fault, page_fault, span_fault, page_span_fault, argument_fault, program_fault, record_fault, port_fault, refusal, page_named}
+use Rattle.driver.specs.Refusals.{free_fault, slip_fault, state_fault, argument_fault, program_fault, record_fault, refusal}
 use Rattle.driver.specs.declared.standing.Standing.{Standing}
 use Rattle.driver.specs.declared.standing.Standing.TheVariants as standing
 use Rattle.flash.specs.Parts.{identified}
 use Rattle.commands.specs.Polls.{polled, left, first_of}
 use Rattle.commands.specs.Sequences.{first_column}
-use Rattle.calls.specs.Afters.{move_to, asked, after_poll, after_reset, after_erase, after_program, after_open, after_bytes, after_identity, if_ready, noted, after}
+use Rattle.calls.specs.Afters.{after_poll, after_reset, after_erase, after_program, after_open, after_bytes, after_identity, if_ready, noted, after}
 use Rattle.calls.specs.Table.{mark_column, block_row}
 use Rattle.calls.proofs.Polled.{ends_ready}
 use Rattle.calls.proofs.Theorems.{call_leaves}
-use Rattle.driver.specs.Outcomes.{Outcome, leaving, standing_at, identifying, changed_in, programmed_in, stuck_at, still_at, named, identified_by, looked, read_by, erasing, programming, chaining, next_by, last_by, copied_by, ended_in, settled_by, cut_off, reset_by, accepted, outcome_at, outcome, cycles_at, call_cycles}
-use Rattle.driver.proofs.Holds.{reader_at, Works, Held, some_none, or_none, fits, begins, free_ready, slip_out_lem, chain_block}
+use Rattle.driver.specs.Outcomes.{leaving, standing_at, changed_in, programmed_in, named, identified_by, looked, read_by, erasing, next_by, last_by, copied_by, ended_in, settled_by, cut_off, reset_by, accepted, outcome_at, outcome, cycles_at, call_cycles}
+use Rattle.driver.proofs.Holds.{reader_at, Works, Held, some_none, or_none, fits, begins, free_ready, slip_out_lem}
 
 -- ## What the record lets pass is what the reader does not blame
 

@@ -1,5 +1,5 @@
 -- A read of more than a page is refused alike, whatever its length.
-use Rattle.std.proofs.Common.{◌≡◌, ℕ, ◌+◌, ◌<◌, ◌≤◌, min, Bool, true, false, cond, ◌&&◌, ltb, leb, List, [], ◌++◌, length, take, drop, Some, None, Option, sym, refl, ap, ◌∙◌, subst, ⊎_elim, arith}
+use Rattle.std.proofs.Common.{◌≡◌, ℕ, ◌≤◌, min, List, [], ◌++◌, length, take, drop, Some, None, Option, sym, refl, ap, ◌∙◌, subst, ⊎_elim, arith}
 use Rattle.std.proofs.lemmas.List.{take_at}
 use Rattle.std.proofs.lemmas.Bool.{cases_lt}
 use Rattle.std.proofs.lemmas.Bool.Decides.{nat_tests}
@@ -9,12 +9,11 @@ use Rattle.flash.specs.declared.fault.Fault.TheVariants as fault
 use Rattle.flash.specs.declared.page.Page.{Page}
 use Rattle.port.specs.declared.port.Port.{Ghosts}
 use Rattle.record.specs.Judgements.{or_else}
-use Rattle.calls.specs.declared.call.Call.{Call}
 use Rattle.calls.specs.declared.call.Call.TheVariants as call
 use Rattle.commands.specs.Sent.{Ran}
-use Rattle.driver.specs.Called.{view_of, Did, Called}
-use Rattle.driver.specs.Outcomes.{Reply, bytes, outcome_at, outcome, cycles_at, call_cycles}
-use Rattle.driver.specs.Refusals.{state_fault, page_fault, span_fault, argument_fault, refusal}
+use Rattle.driver.specs.Called.{view_of, Called}
+use Rattle.driver.specs.Outcomes.{Reply, bytes, outcome_at, cycles_at}
+use Rattle.driver.specs.Refusals.{state_fault, page_fault, span_fault, refusal}
 use Rattle.driver.specs.Views.{View}
 use Rattle.driver.specs.declared.session.Session.{Session}
 

@@ -1,5 +1,5 @@
 -- A settle changes the record of one block and of no other, or of none.
-use Rattle.std.proofs.Common.{◌≡◌, ℕ, Bool, true, false, cond, ltb, List, [], length, get_or, set, Some, None, Option, sym, refl, ap, ◌∙◌, subst}
+use Rattle.std.proofs.Common.{◌≡◌, ℕ, Bool, true, false, cond, ltb, List, [], get_or, set, Some, None, Option, sym, refl, ap, subst}
 use Rattle.std.proofs.lemmas.List.{get_or-set_other}
 use Rattle.flash.specs.Records.{first_record, program_ended, erase_ended}
 use Rattle.flash.specs.Statuses.{verdict_of}

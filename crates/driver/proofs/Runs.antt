@@ -1,14 +1,12 @@
 -- A run, turn by turn.
-use Rattle.std.proofs.Common.{◌≡◌, ℕ, ◌+◌, ◌≤◌, Bool, true, false, cond, List, [], ◌∷◌, ◌++◌, length, Some, None, Option, sym, refl, ap, ◌∙◌, subst, append_assoc, append-nil, arith}
-use mathlib.Core.List.{foldl, foldl-append}
+use Rattle.std.proofs.Common.{◌≡◌, ℕ, ◌+◌, true, false, List, [], ◌∷◌, ◌++◌, length, Some, None, Option, sym, refl, ap, ◌∙◌, subst, append_assoc, append-nil, arith}
+use mathlib.Core.List.{foldl}
 use Rattle.flash.specs.Parts.{identified}
 use Rattle.flash.specs.declared.address.Column.{Column}
-use Rattle.flash.specs.declared.cycle.Cycle.{Cycle}
 use Rattle.flash.specs.declared.fault.Fault.{Fault}
 use Rattle.flash.specs.declared.page.Page.{Page}
 use Rattle.flash.specs.declared.part.Part.{Part}
-use Rattle.bus.specs.Bus.{Reader, first, steps}
-use Rattle.port.specs.Meanings.{Meaning}
+use Rattle.bus.specs.Bus.{Reader, steps}
 use Rattle.port.specs.declared.port.Port.{Ghosts}
 use Rattle.commands.specs.Polls.{polled, left, first_of}
 use Rattle.calls.specs.Table.{slip_page, chain_page}
@@ -18,7 +16,7 @@ use Rattle.driver.specs.Called.{view_of, Called}
 use Rattle.driver.specs.Laws.{Exact, given, returned, working, stands_after}
 use Rattle.driver.specs.Outcomes.{Reply, Outcome, named, identified_by, looked, read_by, next_by, last_by, copied_by, settled_by, reset_by, accepted, outcome_at, outcome, call_cycles}
 use Rattle.driver.specs.Refusals.{refusal}
-use Rattle.driver.specs.Turns.{Stage, offers, stage_after, Answer, answered, not_offered, Turn, Where, view_at, Answers, advanced, Pinned, Lawful, Law, cycles_of}
+use Rattle.driver.specs.Turns.{offers, answered, not_offered, Turn, Where, view_at, advanced, Lawful, Law, cycles_of}
 use Rattle.driver.specs.Views.{View}
 use Rattle.driver.specs.declared.session.Session.{Session}
 use Rattle.driver.proofs.Balances.{out_of, working_is, stands_after_lem, slips_move}

@@ -1,7 +1,7 @@
 -- The loop of a run over the steps of a script.
 use Rattle.std.proofs.Common.{◌≡◌, ℕ, ◌+◌, ◌<◌, ◌≤◌, Bool, true, false, List, [], ◌∷◌, ◌++◌, map, length, get_or, take, None, vec_items, MatchBool, Option, sym, refl, ap, ◌∙◌, subst, append_assoc, append-nil, arith}
 use mathlib.Core.List.{foldl, map-append}
-use Rattle.std.proofs.lemmas.List.{take_more, take_all, length-map, length-append, length-take-le, take-map}
+use Rattle.std.proofs.lemmas.List.{take_more, length-map, length-take-le, take-map}
 use Rattle.std.proofs.lemmas.Bool.Decides.{nat_tests}
 use Rattle.flash.specs.declared.page.Page.{Page}
 use Rattle.bus.specs.Bus.{first}
@@ -13,7 +13,7 @@ use Rattle.commands.proofs.Runs.{ran_none}
 use Rattle.driver.specs.Called.{view_of, Called}
 use Rattle.driver.specs.Outcomes.{done, outcome_at, cycles_at}
 use Rattle.driver.specs.Refusals.{port_fault, refusal}
-use Rattle.driver.specs.Scripts.{bytes_for, answer_of, asked, asked_in, answer_in, Followed}
+use Rattle.driver.specs.Scripts.{bytes_for, answer_of, asked, asked_in, Followed}
 use Rattle.driver.specs.Stages.{session_of, stage_of, Stepped, Made, Rested}
 use Rattle.driver.specs.Turns.{surveying, answered, begun, Law, cycles_of}
 use Rattle.driver.specs.Turns as turns

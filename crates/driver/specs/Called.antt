@@ -1,5 +1,5 @@
 -- What a call promises.
-use Rattle.std.specs.Prelude.{◌≡◌, ℕ, Bool, true, false, cond, ◌||◌, List, length, Ok, Err, Option, Result, ◌==◌, ◌≢◌, slice_index_or}
+use Rattle.std.specs.Prelude.{◌≡◌, ℕ, Bool, true, cond, ◌||◌, List, length, Ok, Err, Result, ◌==◌, ◌≢◌, slice_index_or}
 use Rattle.flash.specs.Faults.{number_of}
 use Rattle.flash.specs.Records.{first_record}
 use Rattle.flash.specs.declared.cycle.Cycle.{Cycle}

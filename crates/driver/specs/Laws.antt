@@ -1,5 +1,5 @@
 -- The law of a call, in the words of calls, answers and the bus reader.
-use Rattle.std.specs.Prelude.{◌≡◌, ℕ, ◌+◌, Bool, true, false, cond, List, is_some, nat_eq, nat_lt}
+use Rattle.std.specs.Prelude.{◌≡◌, ℕ, Bool, true, false, cond, List, is_some, nat_eq, nat_lt}
 use Rattle.flash.specs.Faults.{number_of, place_of}
 use Rattle.flash.specs.declared.fault.Fault.{Fault}
 use Rattle.flash.specs.declared.fault.Place.{Place}
@@ -11,7 +11,6 @@ use Rattle.calls.specs.declared.call.Call.{Call}
 use Rattle.calls.specs.declared.call.Call.TheVariants as call
 use Rattle.driver.specs.Called.{settle_takes, abandon_takes}
 use Rattle.driver.specs.Outcomes.{Reply, done, slip, byte, bytes, block, known, refused}
-use Rattle.driver.specs.Views.{block_page}
 use Rattle.driver.specs.declared.standing.Standing.{Standing}
 use Rattle.driver.specs.declared.standing.Standing.TheVariants as standing
 

@@ -1,5 +1,5 @@
 -- What a call answers and leaves, for the replies that the chip gives.
-use Rattle.std.specs.Prelude.{ℕ, Bool, List, [], length, Some, None, Option, slice_index_or}
+use Rattle.std.specs.Prelude.{ℕ, List, [], length, Some, None, Option, slice_index_or}
 use Rattle.flash.specs.Addresses.{row_at}
 use Rattle.flash.specs.Parts.{identified}
 use Rattle.flash.specs.Records.{first_record, stale, programmed, program_ended, erase_ended}
@@ -18,10 +18,10 @@ use Rattle.bus.specs.States.{blocks_in, allowed_in}
 use Rattle.commands.specs.Polls.{polled, left, first_of}
 use Rattle.record.specs.Picks.{picked}
 use Rattle.calls.specs.Afters.{noted}
-use Rattle.calls.specs.Table.{mark_column, slip_page, chain_page, cycles}
+use Rattle.calls.specs.Table.{slip_page, chain_page, cycles}
 use Rattle.calls.specs.declared.call.Call.{Call}
 use Rattle.calls.specs.declared.call.Call.TheVariants as call
-use Rattle.driver.specs.Views.{View, block_page, erase_slip, program_slip, chain_slip, block_at_work}
+use Rattle.driver.specs.Views.{View, erase_slip, program_slip, chain_slip, block_at_work}
 use Rattle.driver.specs.Refusals.{refusal}
 use Rattle.driver.specs.declared.standing.Standing.{Standing}
 use Rattle.driver.specs.declared.standing.Standing.TheVariants as standing

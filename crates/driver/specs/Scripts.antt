@@ -1,8 +1,6 @@
 -- Scripts as lists of calls, and what a run of one promises.
-use Rattle.std.specs.Prelude.{◌≡◌, ℕ, min, Bool, true, false, List, [], ◌∷◌, ◌++◌, map, length, take, vec_items}
+use Rattle.std.specs.Prelude.{◌≡◌, ℕ, min, true, false, List, [], ◌∷◌, ◌++◌, map, length, take, vec_items}
 use mathlib.Core.List.{foldl}
-use Rattle.bus.specs.Bus.{first}
-use Rattle.port.specs.Meanings.{Meaning}
 use Rattle.port.specs.declared.port.Port.{Ghosts}
 use Rattle.calls.specs.declared.call.Call.{Call}
 use Rattle.calls.specs.declared.call.Call.TheVariants as call

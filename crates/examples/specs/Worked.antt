@@ -1,5 +1,5 @@
 -- Worked examples, computed from the definitions that the calls' promises cite.
-use Rattle.std.specs.Prelude.{◌≡◌, ℕ, Bool, true, false, List, [], ◌∷◌, Some, None, Option}
+use Rattle.std.specs.Prelude.{◌≡◌, ℕ, false, List, [], ◌∷◌, Some, None, Option}
 use Rattle.flash.specs.Addresses.{row_at}
 use Rattle.flash.specs.Faults.{number_of}
 use Rattle.flash.specs.Records.{first_record}
@@ -9,7 +9,6 @@ use Rattle.flash.specs.declared.cycle.Kind.TheVariants.{Command, Address, DataIn
 use Rattle.flash.specs.declared.fault.Fault.{Fault}
 use Rattle.flash.specs.declared.fault.Fault.TheVariants as fault
 use Rattle.flash.specs.declared.page.Page.{Page}
-use Rattle.flash.specs.declared.part.Part.{Part}
 use Rattle.flash.specs.declared.part.Part.TheVariants.{OneGbit, TwoGbit}
 use Rattle.flash.specs.declared.record.BlockRecord.{BlockRecord}
 use Rattle.flash.specs.declared.record.Mark.TheVariants.{Clean, Marked}
@@ -18,10 +17,9 @@ use Rattle.flash.specs.declared.record.Pages.TheVariants.{Stale, Blank, Last}
 use Rattle.bus.specs.declared.act.Confirm.TheVariants as confirm
 use Rattle.commands.specs.Sequences.{row_bytes}
 use Rattle.calls.specs.Deeds.{decode, erase, program}
-use Rattle.calls.specs.Table.{cycles, most}
-use Rattle.calls.specs.declared.call.Call.{Call}
+use Rattle.calls.specs.Table.{cycles}
 use Rattle.calls.specs.declared.call.Call.TheVariants as call
-use Rattle.driver.specs.Outcomes.{Reply, Outcome, done, slip, refused, outcome}
+use Rattle.driver.specs.Outcomes.{Reply, done, refused, outcome}
 use Rattle.driver.specs.Refusals.{refusal}
 use Rattle.driver.specs.Views.{View, program_slip}
 use Rattle.driver.specs.declared.standing.Standing.{Standing}

@@ -1,9 +1,9 @@
 // A log on its way through: read, told and reported piece by piece.
 use crate::report::Report;
+use bus_log::log_reader::{LogError, LogReader};
 use events::event::Event;
 use events::teller::Teller;
 use flash::cycle::Cycle;
-use bus_log::log_reader::{LogError, LogReader};
 use std::alloc::{AllocError, Global};
 use std::io;
 use std::io::{Read, Write};

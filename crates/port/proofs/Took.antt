@@ -1,8 +1,8 @@
 -- Cycles that went over a port, put together.
-use Rattle.std.proofs.Common.{◌≡◌, ℕ, ◌+◌, ◌<◌, ◌≤◌, List, [], ◌∷◌, ◌++◌, length, refl, ap, ◌∙◌, arith, length-append}
+use Rattle.std.proofs.Common.{ℕ, List, [], ◌∷◌, ◌++◌, refl, ap, ◌∙◌, arith, length-append}
 use mathlib.Core.List.{foldl, foldl-append}
 use Rattle.flash.specs.declared.cycle.Cycle.{Cycle}
-use Rattle.bus.specs.Bus.{Reader, step, steps}
+use Rattle.bus.specs.Bus.{steps}
 use Rattle.port.specs.Meanings.{Meaning, Stepped, Took}
 
 module _ {f : List ℕ → Cycle → List ℕ} where

@@ -93,7 +93,7 @@ pub(crate) fn check_last(
     let mut cycles = cycles_of(heap, log)?;
     let last = cycles.pop().ok_or("an empty log")?;
     let step = Step::after(cycles.as_slice(), last);
-    step.check(heap).note(log)?;
+    step.check(rt, heap, log)?;
     assert_eq!(rt;
         shown::broken(heap, step.breaches)?.as_str(),
         expected,

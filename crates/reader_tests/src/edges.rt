@@ -62,8 +62,8 @@ fn edges_of_an_address(rt: HostRuntime) -> Result<(), Fail> {
     for (log, block, expected) in &LAST_BLOCKS {
         let cycles = cycles_of(rt.alloc(), log)?;
         let held = Held::after(cycles.as_slice(), *block);
-        held.check_block(rt.alloc(), expected)
-            .note(format_args!("block {block} after {log}"))?;
+        let at = format!(in rt.alloc(); "block {block} after {log}")?;
+        held.check_block(&rt, rt.alloc(), expected, at.as_str())?;
     }
     Ok(())
 }

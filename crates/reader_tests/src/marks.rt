@@ -3,6 +3,7 @@ use crate::logs::cycles_of;
 use crate::seen::Held;
 use flash::cycle::{Cycle, Kind};
 use std::alloc::Global;
+use std::process::Abort;
 use std::test::*;
 
 // A log that ends before a factory mark of block 2, later reads of that mark, and the record where
@@ -57,26 +58,26 @@ pub(crate) fn held_with(heap: Global, log: &str, byte: u8, later: &str) -> Resul
     Ok(Held::after(cycles.as_slice(), 2))
 }
 
-fn check_mark(heap: Global, read: MarkRead, byte: u8) -> Result<(), Fail> {
+fn check_mark(rt: &impl Abort, heap: Global, read: MarkRead, byte: u8) -> Result<(), Fail> {
     let expected = if byte == 0xFF {
         read.clean
     } else {
         read.marked
     };
-    held_with(heap, read.log, byte, "")?.check_block(heap, expected)?;
-    held_with(heap, read.log, byte, read.later)?.check_block(heap, expected)
+    let at = format!(in heap; "{} 3{byte:02X}", read.log)?;
+    held_with(heap, read.log, byte, "")?.check_block(rt, heap, expected, at.as_str())?;
+    held_with(heap, read.log, byte, read.later)?.check_block(rt, heap, expected, at.as_str())
 }
 
 #[test]
 fn each_byte_as_a_mark(rt: HostRuntime) -> Result<(), Fail> {
     for byte in 0..=255u8 {
         for read in &MARKS {
-            check_mark(rt.alloc(), *read, byte).note(format_args!("{} 3{byte:02X}", read.log))?;
+            check_mark(&rt, rt.alloc(), *read, byte)?;
         }
         for log in &NO_MARKS {
             let held = held_with(rt.alloc(), log, byte, "")?;
-            held.check_block(rt.alloc(), "unread unread stale")
-                .note(log)?;
+            held.check_block(&rt, rt.alloc(), "unread unread stale", log)?;
         }
     }
     Ok(())

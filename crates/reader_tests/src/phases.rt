@@ -101,6 +101,7 @@ fn has(cycles: &[Cycle], byte: u8) -> bool {
 fn check_command(
     rt: &impl Abort,
     heap: Global,
+    log: &str,
     cycles: &[Cycle],
     byte: u8,
     expected: &str,
@@ -110,9 +111,10 @@ fn check_command(
         byte,
     };
     let step = Step::after(cycles, command);
-    step.check(heap)?;
+    let at = format!(in heap; "{log} 0{byte:02X}")?;
+    step.check(rt, heap, at.as_str())?;
     let broken = shown::broken(heap, of_place(step.breaches))?;
-    assert_eq!(rt; broken.as_str(), expected);
+    assert_eq!(rt; broken.as_str(), expected, "{}", at);
     Ok(())
 }
 
@@ -131,9 +133,7 @@ fn check_commands(
         } else {
             else_breaks
         };
-        check_command(rt, heap, cycles.as_slice(), byte, expected).note(format_args!(
-            "{log} 0{byte:02X}"
-        ))?;
+        check_command(rt, heap, log, cycles.as_slice(), byte, expected)?;
     }
     Ok(())
 }

@@ -8,6 +8,7 @@ use flash::cycle::Cycle;
 use flash::geometry::MOST_BLOCKS;
 use flash::record::{BlockRecord, Mark, Pages};
 use std::alloc::Global;
+use std::process::Abort;
 use std::test::*;
 
 // What the records hold before they are lent: a new reader forgets it.
@@ -40,17 +41,39 @@ impl Held {
         Held::by(&reader, block)
     }
 
-    pub(crate) fn check_block(&self, heap: Global, expected: &str) -> Result<(), Fail> {
-        assert_eq!(shown::block(heap, self.block)?.as_str(), expected);
+    pub(crate) fn check_block(
+        &self,
+        rt: &impl Abort,
+        heap: Global,
+        expected: &str,
+        log: &str,
+    ) -> Result<(), Fail> {
+        assert_eq!(rt;
+            shown::block(heap, self.block)?.as_str(),
+            expected,
+            "{}",
+            log
+        );
         Ok(())
     }
 
     // Only the count of breaches may differ.
-    fn check_same(&self, heap: Global, other: &Held) -> Result<(), Fail> {
+    fn check_same(
+        &self,
+        rt: &impl Abort,
+        heap: Global,
+        other: &Held,
+        log: &str,
+    ) -> Result<(), Fail> {
         let bus = bus_text(heap, &other.bus)?;
-        assert_eq!(bus_text(heap, &self.bus)?.as_str(), bus.as_str());
+        assert_eq!(rt;
+            bus_text(heap, &self.bus)?.as_str(),
+            bus.as_str(),
+            "{}",
+            log
+        );
         let block = shown::block(heap, other.block)?;
-        self.check_block(heap, block.as_str())
+        self.check_block(rt, heap, block.as_str(), log)
     }
 }
 
@@ -94,13 +117,13 @@ impl Step {
     }
 
     /// The breaches are counted, and a cycle that is not taken changes nothing else.
-    pub(crate) fn check(&self, heap: Global) -> Result<(), Fail> {
+    pub(crate) fn check(&self, rt: &impl Abort, heap: Global, log: &str) -> Result<(), Fail> {
         let breaches = self.breaches;
         if breaches.while_busy || breaches.out_of_place {
-            self.after.check_same(heap, &self.before)?;
+            self.after.check_same(rt, heap, &self.before, log)?;
         }
         let count = self.before.bus.breaches.saturating_add(how_many(breaches));
-        assert_eq!(self.after.bus.breaches, count);
+        assert_eq!(rt; self.after.bus.breaches, count, "{}", log);
         Ok(())
     }
 }

@@ -84,10 +84,11 @@ fn check_status(rt: &impl Abort, heap: Global, work: Work, status: u8) -> Result
     };
     let held = held_with(heap, work.log, status, "")?;
     let expected = format!(in heap; "unread unread{failed} {pages}")?;
-    held.check_block(heap, expected.as_str())?;
+    let at = format!(in heap; "{} 3{status:02X}", work.log)?;
+    held.check_block(rt, heap, expected.as_str(), at.as_str())?;
     let busy = shown::work(heap, &held.bus)?;
     let expected = if is_ready { work.ended } else { work.busy };
-    assert_eq!(rt; busy.as_str(), expected);
+    assert_eq!(rt; busy.as_str(), expected, "{}", at);
     Ok(())
 }
 
@@ -95,10 +96,7 @@ fn check_status(rt: &impl Abort, heap: Global, work: Work, status: u8) -> Result
 fn each_byte_as_a_status(rt: HostRuntime) -> Result<(), Fail> {
     for work in &WORKS {
         for status in 0..=255u8 {
-            check_status(&rt, rt.alloc(), *work, status).note(format_args!(
-                "{} 3{status:02X}",
-                work.log
-            ))?;
+            check_status(&rt, rt.alloc(), *work, status)?;
         }
     }
     Ok(())

@@ -1,5 +1,5 @@
 -- A search, block by block.
-use Rattle.std.proofs.Common.{◌≡◌, ℕ, suc, ◌+◌, ◌-◌, ◌<◌, ◌≤◌, true, false, cond, List, get_or, Some, None, refl, ap, ◌∙◌, arith}
+use Rattle.std.proofs.Common.{◌≡◌, ℕ, suc, ◌+◌, ◌-◌, ◌<◌, ◌≤◌, true, false, cond, List, get_or, Some, None, ap, ◌∙◌, arith}
 use Rattle.flash.specs.Records.{first_record}
 use Rattle.flash.specs.declared.record.BlockRecord.{BlockRecord}
 use Rattle.record.specs.Picks.{suitable, seek, picked}

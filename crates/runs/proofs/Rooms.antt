@@ -1,12 +1,10 @@
 -- On a model chip with enough block records no call is turned away for want of room.
-use Rattle.std.proofs.Common.{◌≡◌, ℕ, ◌+◌, ◌-◌, ◌<◌, ◌≤◌, Bool, true, false, cond, ◌&&◌, eqb, ltb, ◌⊎◌, List, [], ◌∷◌, ◌++◌, map, length, get_or, Some, None, Option, sym, refl, ap, ◌∙◌, subst, inl, inr, ⊎_elim, arith}
-use mathlib.Core.List.{foldl}
+use Rattle.std.proofs.Common.{◌≡◌, ℕ, ◌+◌, ◌≤◌, Bool, true, false, cond, eqb, ◌⊎◌, List, [], ◌∷◌, length, get_or, Some, None, Option, sym, refl, ap, ◌∙◌, inl, inr, ⊎_elim, arith}
 use Rattle.std.proofs.lemmas.Bool.Decides.{nat_tests}
 use Rattle.flash.specs.Faults.{number_of}
 use Rattle.flash.specs.Parts.{identified}
 use Rattle.flash.specs.Records.{first_record}
 use Rattle.flash.specs.Statuses.{verdict_of}
-use Rattle.flash.specs.declared.address.Column.{Column}
 use Rattle.flash.specs.declared.fault.Fault.{Fault}
 use Rattle.flash.specs.declared.page.Page.{Page}
 use Rattle.flash.specs.declared.part.Part.{Part}
@@ -14,24 +12,24 @@ use Rattle.flash.specs.declared.record.BlockRecord.{BlockRecord}
 use Rattle.flash.specs.declared.record.Pages.{Pages}
 use Rattle.flash.specs.declared.status.Verdict.{Verdict}
 use Rattle.flash.specs.declared.status.Verdict.TheVariants as verdict
-use Rattle.bus.specs.States.{cycles_in, allowed_in}
+use Rattle.bus.specs.States.{allowed_in}
 use Rattle.commands.specs.Polls.{polled, left, first_of}
 use Rattle.record.specs.Judgements.{or_else, unfit, unready}
 use Rattle.calls.specs.Table.{slip_page, chain_page, cycles, row_count, most}
-use Rattle.calls.specs.Told.{InPart, Span, Fits}
+use Rattle.calls.specs.Told.{Fits}
 use Rattle.calls.specs.declared.call.Call.{Call}
 use Rattle.calls.specs.declared.call.Call.TheVariants as call
 use Rattle.calls.proofs.Lengths.{within_most}
 use Rattle.chip.specs.Models.{means_of, has_room}
 use Rattle.chip.specs.declared.model.ModelChip.{ModelChip}
 use Rattle.driver.specs.Opens.{poll_count}
-use Rattle.driver.specs.Outcomes.{Reply, refused, named, identified_by, looked, read_by, next_by, last_by, copied_by, verdict_reply, settled_by, reset_by, accepted, outcome_at, outcome, cycles_at, call_cycles}
+use Rattle.driver.specs.Outcomes.{named, identified_by, looked, read_by, next_by, last_by, copied_by, verdict_reply, settled_by, reset_by, accepted, outcome_at, outcome, cycles_at, call_cycles}
 use Rattle.driver.specs.Refusals.{state_fault, argument_fault, program_fault, record_fault, port_fault, page_named, refusal}
 use Rattle.driver.specs.Scripts.{Rooms}
 use Rattle.driver.specs.Turns.{answered, not_offered, Turn, Where, view_at, advanced, Lawful, Law, Pinned}
 use Rattle.driver.specs.Turns as turns
 use Rattle.driver.specs.Views.{View, block_page}
-use Rattle.driver.proofs.Holds.{some_none, or_none, fits}
+use Rattle.driver.proofs.Holds.{some_none, fits}
 use Rattle.driver.proofs.Judges.{or_some}
 use Rattle.runs.specs.Owners.{chips, full_reply, full_answer, NeverFull}
 

@@ -1,10 +1,10 @@
 -- What a tape holds after a run.
-use Rattle.std.proofs.Common.{◌≡◌, ℕ, List, [], ◌∷◌, ◌++◌, map, sym, refl, ap, ◌∙◌, append_assoc, append-nil}
+use Rattle.std.proofs.Common.{◌≡◌, ℕ, List, [], ◌∷◌, ◌++◌, map, sym, ap, ◌∙◌, append_assoc, append-nil}
 use mathlib.Core.List.{foldl}
 use Rattle.flash.specs.declared.cycle.Cycle.{Cycle}
 use Rattle.bus.specs.Bus.{first}
 use Rattle.port.specs.Meanings.{Meaning, code}
-use Rattle.port.specs.Tapes.{taped, appended, written_on}
+use Rattle.port.specs.Tapes.{taped, appended}
 use Rattle.port.specs.declared.tape.Tape.{Tape}
 use Rattle.driver.specs.Scripts.{Followed}
 use Rattle.driver.specs.Turns.{cycles_of}

@@ -4,7 +4,7 @@ use Rattle.flash.specs.Faults.{number_of}
 use Rattle.flash.specs.Parts.{blocks_of}
 use Rattle.flash.specs.declared.part.Part.{Part}
 use Rattle.bus.specs.Bus.{first}
-use Rattle.port.specs.Meanings.{Meaning, code}
+use Rattle.port.specs.Meanings.{code}
 use Rattle.port.specs.Tapes.{taped, appended, written_on}
 use Rattle.port.specs.declared.port.Port.{Ghosts}
 use Rattle.port.specs.declared.tape.Tape.{Tape}

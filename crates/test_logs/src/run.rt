@@ -3,8 +3,8 @@ ghost use Rattle.std.specs.Prelude.{◌≡◌, [], ◌∷◌, OnOk};
 ghost use Rattle.bus_log.specs.Logs.{standing, Went};
 ghost use Rattle.test_logs.specs.Runs.{spaced, ran};
 
-use flash::cycle::Cycle;
 use bus_log::log_reader::{LogError, LogReader};
+use flash::cycle::Cycle;
 
 // A space ends a line.
 fn feed(log: &mut LogReader, byte: u8, cycles: &mut Vec<Cycle>) -> Result<(), LogError>

@@ -1,4 +1,4 @@
-use Rattle.std.proofs.Common.{refl, arith}
+use Rattle.std.proofs.Common.{arith}
 use Rattle.std.proofs.lemmas.Result.{err_from_is_err_and}
 use Rattle.commands.specs.Sequences.{hosted}
 use Rattle.commands.proofs.Runs.{ran_step, ran_more, ran_all, ran_cut}

@@ -1,7 +1,6 @@
-use Rattle.std.proofs.Common.{◌≡◌, map, length, arith}
+use Rattle.std.proofs.Common.{length, arith}
 use Rattle.std.proofs.lemmas.Result.{err_from_is_err_and}
 use Rattle.port.specs.Meanings.{gave}
-use Rattle.commands.proofs.Polls.{first_all}
 use Rattle.commands.proofs.Runs.{ran_step, ran_more_set, ran_all, ran_cut, short_of}
 use Rattle.commands.proofs.bytes.take_bytes.Goals as goal
 

@@ -1,4 +1,3 @@
-use Rattle.std.proofs.lemmas.Result.{err_from_is_err_and}
 use Rattle.commands.proofs.copy.send_copy_read.Goals as goal
 
 pub returns : goal.returns

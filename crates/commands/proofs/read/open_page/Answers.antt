@@ -1,5 +1,5 @@
 use Rattle.std.proofs.lemmas.Result.{err_from_is_err_and}
-use Rattle.std.proofs.Common.{[], ◌∷◌, ◌++◌, Some, ap}
+use Rattle.std.proofs.Common.{◌∷◌, ◌++◌, Some, ap}
 use Rattle.flash.specs.Addresses.{row_at}
 use Rattle.commands.specs.Polls.{command, poll_cycles}
 use Rattle.commands.specs.Sequences.{addressed}

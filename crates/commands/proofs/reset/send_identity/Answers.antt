@@ -1,5 +1,5 @@
 use Rattle.std.proofs.lemmas.Result.{err_from_is_err_and}
-use Rattle.std.proofs.Common.{◌∷◌, map, sym, ap, arith}
+use Rattle.std.proofs.Common.{◌∷◌, map, sym, ap}
 use Rattle.port.specs.Meanings.{gave}
 use Rattle.commands.specs.Polls.{first_of}
 use Rattle.commands.specs.Sequences.{address_byte}

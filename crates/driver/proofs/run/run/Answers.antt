@@ -1,4 +1,4 @@
-use Rattle.std.proofs.Common.{vec_items, refl, arith}
+use Rattle.std.proofs.Common.{vec_items, refl}
 use Rattle.driver.specs.Opens.{poll_count}
 use Rattle.driver.specs.declared.stage.Stage.TheVariants as stage
 use Rattle.driver.proofs.Scripting.{scripted_none, scripted_step, followed}

@@ -1,5 +1,4 @@
-use Rattle.std.proofs.Common.{◌≡◌, ◌≤◌, true, ◌++◌, map, length, take, vec_items}
-use Rattle.bus.specs.Bus.{first}
+use Rattle.std.proofs.Common.{vec_items}
 use Rattle.driver.proofs.Scripting.{Scripted}
 use Rattle.driver.proofs.run.run.Given as goal
 

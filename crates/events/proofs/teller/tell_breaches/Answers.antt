@@ -1,4 +1,4 @@
-use Rattle.std.proofs.Common.{List, map, vec_items, ◌∙◌, arith}
+use Rattle.std.proofs.Common.{map, vec_items, ◌∙◌, arith}
 use Rattle.bus.specs.Breaches.{if_so}
 use Rattle.bus.specs.declared.breach.Breach.TheVariants as breach
 use Rattle.events.specs.Events.{broke}

@@ -1,7 +1,7 @@
-use Rattle.std.proofs.Common.{◌≡◌, [], ◌∷◌, get_or, take, vec_items, sym, ap, ◌∙◌, arith}
+use Rattle.std.proofs.Common.{[], ◌∷◌, get_or, take, vec_items, sym, ap, ◌∙◌, arith}
 use mathlib.Core.List.{foldl-append}
 use Rattle.std.proofs.lemmas.List.{take_more, take_all}
-use Rattle.bus_log.specs.Logs.{Reading, standing, read_byte}
+use Rattle.bus_log.specs.Logs.{Reading, read_byte}
 use Rattle.test_logs.specs.Runs.{begun_with, run_byte, run_on}
 use Rattle.test_logs.proofs.run.read_run.Goals as goal
 

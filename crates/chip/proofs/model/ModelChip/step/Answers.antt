@@ -1,4 +1,4 @@
-use Rattle.std.proofs.Common.{◌≡◌, ◌≤◌, length, sym, refl, ap, ◌∙◌, subst}
+use Rattle.std.proofs.Common.{◌≡◌, ◌≤◌, length, sym, ap, ◌∙◌, subst}
 use Rattle.bus.specs.Acts.{act_of}
 use Rattle.bus.specs.Bus.{step}
 use Rattle.bus.specs.Readers.{held, meant}

@@ -1,5 +1,4 @@
 use Rattle.std.proofs.Common.{◌≡◌, ◌≤◌, true, length, sym, ap, ◌∙◌, subst}
-use Rattle.flash.specs.declared.cycle.Cycle.{Cycle}
 use Rattle.bus.specs.Bus.{step}
 use Rattle.bus.specs.Readers.{meant}
 use Rattle.bus.specs.States.{blocks_in}

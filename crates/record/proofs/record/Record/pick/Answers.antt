@@ -1,7 +1,6 @@
-use Rattle.std.proofs.Common.{◌≡◌, true, false, get_or, sym, ap, ◌∙◌, arith}
-use Rattle.flash.specs.Records.{first_record}
+use Rattle.std.proofs.Common.{sym, ap, ◌∙◌, arith}
 use Rattle.record.specs.Picks.{suitable}
-use Rattle.record.proofs.Seeks.{found, passed, none_left}
+use Rattle.record.proofs.Seeks.{found, passed}
 use Rattle.record.proofs.record.Record.pick.Goals as goal
 
 pub returns-then-is_suitable : goal.returns-then-is_suitable

@@ -1,6 +1,6 @@
 -- The replies to a poll, taken one by one.
 use Rattle.std.proofs.Common.{◌≡◌, ℕ, zero, suc, ◌<◌, Bool, true, false, List, [], ◌∷◌, ◌++◌, length, is_some, Some, None, refl, ap, arith}
-use Rattle.std.specs.List.{AllByRecursion as All}
+use Rattle.std.specs.List.{AllByRecursion}
 use Rattle.flash.specs.Statuses.{ready}
 use Rattle.commands.specs.Polls.{polled, taken, left, first_of}
 
@@ -8,7 +8,7 @@ abbrev pub Busy : ℕ → Type 0
 Busy s = ready s ≡ false
 
 -- busy replies, then a ready one
-pub ends_ready : (xs : List ℕ) (n s : ℕ) → All Busy xs → length xs < n → ready s ≡ true
+pub ends_ready : (xs : List ℕ) (n s : ℕ) → AllByRecursion Busy xs → length xs < n → ready s ≡ true
     → (polled n (xs ++ s ∷ []) ≡ Some s) × (taken n (xs ++ s ∷ []) ≡ xs ++ s ∷ [])
 ends_ready xs zero s b h e = absurd (omega arith)
 ends_ready [] (suc n) s b h e = (simp e, simp e)
@@ -17,7 +17,7 @@ ends_ready (x ∷ xs) (suc n) s b h e =
     (simp b.0 m.0, simp b.0 (ap (λ ys. x ∷ ys) m.1))
 
 -- n busy replies
-pub never_ends : (xs : List ℕ) (n : ℕ) → All Busy xs → length xs ≡ n → (polled n xs ≡ None) × (taken n xs ≡ xs)
+pub never_ends : (xs : List ℕ) (n : ℕ) → AllByRecursion Busy xs → length xs ≡ n → (polled n xs ≡ None) × (taken n xs ≡ xs)
 never_ends [] zero b h = (refl, refl)
 never_ends [] (suc n) b h = absurd (omega arith)
 never_ends (x ∷ xs) zero b h = absurd (omega arith)
@@ -26,7 +26,7 @@ never_ends (x ∷ xs) (suc n) b h =
     (simp b.0 m.0, simp b.0 (ap (λ ys. x ∷ ys) m.1))
 
 -- fewer busy replies: one more status byte is taken
-pub goes_on : (xs : List ℕ) (n : ℕ) → All Busy xs → length xs < n → taken n xs ≡ xs ++ 0xFF ∷ []
+pub goes_on : (xs : List ℕ) (n : ℕ) → AllByRecursion Busy xs → length xs < n → taken n xs ≡ xs ++ 0xFF ∷ []
 goes_on xs zero b h = absurd (omega arith)
 goes_on [] (suc n) b h = refl
 goes_on (x ∷ xs) (suc n) b h = simp b.0 (ap (λ ys. x ∷ ys) (goes_on xs n b.1 (omega arith)))

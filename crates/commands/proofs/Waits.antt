@@ -2,7 +2,7 @@
 use Rattle.std.proofs.Common.{◌≡◌, ℕ, ◌+◌, ◌<◌, true, List, [], ◌∷◌, ◌++◌, map, length, is_some, Some, None, Option, sym, refl, ap, ◌∙◌, subst, inl, inr, arith, length-append}
 use mathlib.Core.List.{map-append}
 use Rattle.std.proofs.ByRecursion.{All-push}
-use Rattle.std.specs.List.{AllByRecursion as All}
+use Rattle.std.specs.List.{AllByRecursion}
 use Rattle.flash.specs.Statuses.{ready}
 use Rattle.flash.specs.declared.fault.Fault.TheVariants.{NoRoom, Timeout}
 use Rattle.flash.specs.declared.opcode.Opcode.TheVariants as op
@@ -17,7 +17,7 @@ use Rattle.commands.proofs.Runs.{ran_none, ran_append, cut_refused, cut_later}
 -- k busy replies came
 pub record Waited {X : Type 0} (p : Ghosts X) (k : ℕ) (a b : X) : Type 0 where
   pub replies : List ℕ
-  pub busy : All Busy replies
+  pub busy : AllByRecursion Busy replies
   pub count : length replies ≡ k
   pub ran : Ran p (map gave replies) a b
 
@@ -53,7 +53,7 @@ module _ {X : Type 0} {p : Ghosts X} where
             replies = w.replies;
             never = m.0;
             all = ap length m.1 ∙ (w.count ∙ h);
-            busy = subst (All Busy) (sym m.1) w.busy;
+            busy = subst (AllByRecursion Busy) (sym m.1) w.busy;
             ran = subst (λ zs. Ran p (command op.ReadStatus ∷ map gave zs) a d) (sym m.1) (ran_append asked w.ran);
           },
         )

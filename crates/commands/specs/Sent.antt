@@ -1,6 +1,6 @@
 -- What a command sequence promises of the port and of its result.
 use Rattle.std.specs.Prelude.{◌≡◌, ℕ, ◌<◌, true, false, ◌⊎◌, List, length, take, is_some, None, Option, Result, MatchResult}
-use Rattle.std.specs.List.{AllByRecursion as All}
+use Rattle.std.specs.List.{AllByRecursion}
 use Rattle.flash.specs.Statuses.{ready}
 use Rattle.flash.specs.declared.cycle.Cycle.{Cycle}
 use Rattle.flash.specs.declared.fault.Fault.{Fault}
@@ -43,7 +43,7 @@ pub record TimedOut {X : Type 0} (p : Ghosts X) (n : ℕ) (cs : List ℕ → Lis
   pub replies : List ℕ
   pub never : polled n replies ≡ None
   pub all : length (taken n replies) ≡ n
-  pub busy : All (λ s. ready s ≡ false) (taken n replies)
+  pub busy : AllByRecursion (λ s. ready s ≡ false) (taken n replies)
   pub ran : Ran p (cs replies) a b
 
 abbrev pub Stopped : {X : Type 0} → Ghosts X → ℕ → Option Page → (List ℕ → List Cycle) → Fault → X → X → Type 0

@@ -17,7 +17,6 @@ use Rattle.chip.specs.Cells.{cell_at, cell_of, block_erased, row_programmed}
 use Rattle.chip.specs.Chips.{Chip, Memory, answer, chip_step, cells_after, page_after}
 use Rattle.chip.specs.Kept.{Kept, Programmed, Erased, confirms, fills_page, copies, works, ReadOut}
 use Rattle.chip.proofs.Alterations.{blanked_cell, blanked_else, anded_cell, anded_else, row_cell}
-use Rattle.chip.proofs.Recalls.{stands_step}
 
 programmed : (cells page : List ℕ) (row : ℕ) → Programmed cells page (row_programmed row page cells) row
 programmed cells page row = record { here = anded_cell (2112 * row) 2112 cells page; elsewhere = anded_else (2112 * row) 2112 cells page }
@@ -58,7 +57,6 @@ kept statuses k c = record {
   begins = λ g e. rw e refl;
   loads = λ w s n b e. rw e refl;
   copied = λ w s b e r i j h. rw (e, r, i) (row_cell (2112 * w.number) k.memory.cells j 0 h);
-  stands = λ t r h. stands_step statuses h c;
 }
 
 -- a byte of the register is the cell at its row and column

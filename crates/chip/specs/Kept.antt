@@ -1,6 +1,5 @@
 -- What one cycle may do to the memory of a chip: `k` is the chip before the cycle `c`, `l` after it.
 use Rattle.std.specs.Prelude.{◌≡◌, ℕ, ◌+◌, ◌*◌, ◌<◌, ◌≤◌, Bool, true, false, ◌&&◌, ◌||◌, List, [], ◌∷◌, ◌++◌, map, length, ◌==◌, bit_and, nat_eq, slice_index, slice_set}
-use mathlib.Core.List.{foldl}
 use Rattle.flash.specs.Addresses.{block_of}
 use Rattle.flash.specs.Statuses.{ready}
 use Rattle.flash.specs.declared.address.Column.{Column}
@@ -20,10 +19,8 @@ use Rattle.bus.specs.declared.state.Phase.{Phase}
 use Rattle.bus.specs.declared.state.Phase.TheVariants as phase
 use Rattle.bus.specs.declared.state.Register.{Register}
 use Rattle.bus.specs.declared.state.Setup.TheVariants as setup
-use Rattle.events.specs.Events.{Telling, tells, follow}
 use Rattle.chip.specs.Cells.{cell_at, cell_of, read_at, among, blank_page}
 use Rattle.chip.specs.Chips.{Chip, chip_step, chip_steps}
-use Rattle.chip.specs.Recalls.{Recall, recall, Stands}
 
 abbrev pub broken : Chip → Cycle → Breaches
 broken k c = breaches_of k.reader (act_of k.reader.bus c)
@@ -99,8 +96,6 @@ pub record Kept (k l : Chip) (c : Cycle) : Type 0 where
   pub loads : (w : Row) (s n : Column) (b : ℕ) → act_of k.reader.bus c ≡ act.Load w s n b → l.memory.page ≡ slice_set k.memory.page n.number b
   pub copied : (w : Row) (s : Column) (b : ℕ) → act_of k.reader.bus c ≡ act.Status b → ready b ≡ true → k.reader.bus.busy ≡ busy.Read w s true
       → (j : ℕ) → j < 2112 → slice_index l.memory.page j ≡ cell_at k.memory.cells (cell_of w.number j)
-  -- what waits, and what is recalled, go on with what the cycle tells
-  pub stands : (t : Telling) (r : Recall) → Stands k t r → Stands l (follow t c) (foldl recall r (tells t c))
 
 -- the cycles that give these bytes to program, and the confirm that ends them
 abbrev pub given : List ℕ → Cycle → List Cycle

@@ -1,10 +1,11 @@
 -- What the cells of a chip hold, recalled from what the bus reader tells.
 use Rattle.std.specs.Prelude.{◌≡◌, ℕ, ◌+◌, ◌*◌, Bool, true, false, cond, not, ◌&&◌, List, [], ◌∷◌, length}
+use mathlib.Core.List.{foldl}
 use Rattle.flash.specs.declared.cycle.Cycle.{Cycle}
 use Rattle.bus.specs.Acts.{act_of}
 use Rattle.bus.specs.declared.act.Confirm.{Confirm}
 use Rattle.bus.specs.declared.act.Confirm.TheVariants as confirm
-use Rattle.events.specs.Events.{Place, Thing, broke, reset, status, identity, read, byte, erase, program, Telling, happened, later}
+use Rattle.events.specs.Events.{Place, Thing, broke, reset, status, identity, read, byte, erase, program, Telling, happened, later, tells, follow}
 use Rattle.chip.specs.Cells.{cell_of, among, altered, anded, block_erased, row_programmed, row_held}
 use Rattle.chip.specs.Chips.{Chip}
 use Rattle.chip.specs.Waits.{Waits}
@@ -43,6 +44,10 @@ pub record Stands (k : Chip) (t : Telling) (r : Recall) : Type 0 where
   pub reader : t.reader ≡ k.reader
   pub cells : r.cells ≡ k.memory.cells
   pub waits : Waits k.reader.bus k.memory.cells k.memory.page t.hand r.source
+
+-- from k to l after the cycle c: what waits, and what is recalled, go on with what the cycle tells
+abbrev pub GoesOn : Chip → Chip → Cycle → Type 0
+GoesOn k l c = (t : Telling) (r : Recall) → Stands k t r → Stands l (follow t c) (foldl recall r (tells t c))
 
 -- what a cycle does, the rules that it breaks aside
 abbrev pub does : Telling → Cycle → List Thing

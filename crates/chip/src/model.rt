@@ -1,11 +1,12 @@
 // The model chip: the bus reader inside, cells and status bytes lent by its owner.
-ghost use Rattle.std.specs.Prelude.{◌≡◌, ◌≤◌, length, if◌then◌else◌, MatchResult, nat_le};
-ghost use Rattle.bus.specs.Bus.{step as busStep};
+ghost use Rattle.std.specs.Prelude.{◌≡◌, ◌≤◌, length, if◌then◌else◌, IfOk, OnOk, MatchResult, nat_le};
+ghost use Rattle.bus.specs.Bus.{step as bus_step};
 ghost use Rattle.bus.specs.Readers.{held, meant};
 ghost use Rattle.bus.specs.States.{blocks_in};
 ghost use Rattle.chip.specs.Chips.{answer, register_byte, identity_byte, cells_after, chip_step, new_page, page_after};
 ghost use Rattle.chip.specs.Kept.{Kept, ProgramsKept, CopiesKept, ReadOut};
 ghost use Rattle.chip.specs.Models.{memory_of, chip_of, room_of, has_room, means_of, unmoved, Ran, Rests, first_chip};
+ghost use Rattle.chip.specs.Recalls.{GoesOn};
 ghost use Rattle.chip.specs.Remembers.{EverRemembers};
 ghost use Rattle.port.specs.Meanings.{Fresh, Stepped, Refused, driven, gave};
 ghost use Rattle.flash.specs.Parts.{blocks_of};
@@ -111,8 +112,9 @@ impl ModelChip<'_> {
     // One cycle, on the memory and the reader.
     fn step(&mut self, cycle: Cycle)
         ensures chip { chip_of self.new ≡ chip_step self.old.statuses.now (chip_of self.old) cycle }
-        ensures means { blocks_in self.new.reader.bus.part ≤ length self.old.reader.blocks.now → meant self.new.reader ≡ busStep (meant self.old.reader) cycle }
+        ensures means { blocks_in self.new.reader.bus.part ≤ length self.old.reader.blocks.now → meant self.new.reader ≡ bus_step (meant self.old.reader) cycle }
         ensures kept { Kept (chip_of self.old) (chip_of self.new) cycle }
+        ensures goes_on { GoesOn (chip_of self.old) (chip_of self.new) cycle }
         ensures part { self.new.part ≡ self.old.part }
         ensures statuses { self.new.statuses.now ≡ self.old.statuses.now }
     {
@@ -146,6 +148,7 @@ impl Port for ModelChip<'_> {
     fn put(&mut self, cycle: HostCycle) -> Result<(), Full>
         ensures steps { MatchResult result (λ _. Stepped unmoved (driven cycle) (means_of self.old) (means_of self.new)) (λ _. Refused (means_of self.old) (means_of self.new)) }
         ensures runs { MatchResult result (λ _. Ran self.old self.new (driven cycle)) (λ _. Rests self.old self.new) }
+        ensures goes_on { OnOk result (GoesOn (chip_of self.old) (chip_of self.new) (driven cycle)) }
     {
         if !self.has_room() {
             return Err(Full);
@@ -158,6 +161,7 @@ impl Port for ModelChip<'_> {
     fn take(&mut self) -> Result<u8, Full>
         ensures steps { MatchResult result (λ b. Stepped unmoved (gave b) (means_of self.old) (means_of self.new)) (λ _. Refused (means_of self.old) (means_of self.new)) }
         ensures runs { MatchResult result (λ b. (b ≡ answer self.old.part self.old.reader.bus (memory_of self.old)) × ReadOut (chip_of self.old) b × Ran self.old self.new (gave b)) (λ _. Rests self.old self.new) }
+        ensures goes_on { IfOk result (λ b. GoesOn (chip_of self.old) (chip_of self.new) (gave b)) }
     {
         if !self.has_room() {
             return Err(Full);

@@ -1,7 +1,7 @@
 // The driver: every call on a chip that a survey was made of.
 ghost use Rattle.std.specs.Prelude.{◌≡◌, [], length};
 ghost use Rattle.driver.specs.Called.{Called, unit_reply, slip_reply, read_reply, chain_reply, known_reply, spent_if, settle_takes, abandon_takes, KeptAtRefusal, OthersStand};
-ghost use Rattle.driver.specs.Outcomes.{block as blockReply};
+ghost use Rattle.driver.specs.Outcomes.{block as block_reply};
 
 use crate::session::Session;
 use crate::slip::Slip;
@@ -109,7 +109,7 @@ impl<P: Port> Driver<P> {
 
     /// The lowest block at or above `from` that can take a first page. Nothing is put.
     pub fn pick(&self, from: u16) -> Option<u16>
-        ensures { Called P.Port (Call.Pick from) [] (blockReply result) self.now.session self.now.session }
+        ensures { Called P.Port (Call.Pick from) [] (block_reply result) self.now.session self.now.session }
     {
         self.session.pick(from)
     }

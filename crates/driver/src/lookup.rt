@@ -1,7 +1,7 @@
 // The calls that put nothing: pick, and the record of a block.
 ghost use Rattle.std.specs.Prelude.{[]};
 ghost use Rattle.driver.specs.Called.{Called, known_reply};
-ghost use Rattle.driver.specs.Outcomes.{block as blockReply};
+ghost use Rattle.driver.specs.Outcomes.{block as block_reply};
 
 use crate::arguments::blocks_in;
 use crate::session::Session;
@@ -13,7 +13,7 @@ use port::port::Port;
 impl<P: Port> Session<P> {
     /// The lowest block at or above `from` that can take a first page.
     pub(crate) fn pick(&self, from: u16) -> Option<u16>
-        ensures { Called P.Port (Call.Pick from) [] (blockReply result) self.now self.now }
+        ensures { Called P.Port (Call.Pick from) [] (block_reply result) self.now self.now }
     {
         self.record.pick(blocks_in(self.part), from)
     }

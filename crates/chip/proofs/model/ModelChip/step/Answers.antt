@@ -8,7 +8,9 @@ use Rattle.chip.specs.Chips.{Memory, chip_step, remembers, status_after, cells_a
 use Rattle.chip.specs.Models.{memory_of, chip_of}
 use Rattle.chip.specs.declared.model.ModelChip.{ModelChip}
 use Rattle.chip.specs.Kept.{Kept}
+use Rattle.chip.specs.Recalls.{GoesOn}
 use Rattle.chip.proofs.Keeps.{kept}
+use Rattle.chip.proofs.Recalls.{stands_step}
 use Rattle.chip.proofs.Steps.{remembered}
 use Rattle.chip.proofs.model.ModelChip.step.Goals as goal
 
@@ -40,6 +42,7 @@ returns c =
     record {
       chip = ran;
       kept = subst (λ x. Kept (chip_of k) x c.args.cycle) (sym ran) (kept k.statuses.now (chip_of k) c.args.cycle);
+      goes_on = subst (λ x. GoesOn (chip_of k) x c.args.cycle) (sym ran) (λ t r h. stands_step k.statuses.now h c.args.cycle);
       means = subst (λ (r : BusReader). blocks_in c.read.new.self.bus.part ≤ length r.blocks.now → meant c.read.new.self ≡ step (meant r) c.args.cycle) reader c.read.ensures.means;
       part = c.turn_cells.ensures.part ∙ c.turn_page.ensures.part;
       statuses = statuses;

@@ -6,6 +6,7 @@ use Rattle.port.specs.Meanings.{driven}
 use Rattle.chip.specs.Chips.{chip_step}
 use Rattle.chip.specs.Kept.{Kept}
 use Rattle.chip.specs.Models.{chip_of, has_room}
+use Rattle.chip.specs.Recalls.{GoesOn}
 use Rattle.chip.specs.declared.model.ModelChip.{ModelChip}
 use Rattle.chip.proofs.Owns.{put_own}
 use Rattle.chip.proofs.Ports.{chip_stepped, room_own}
@@ -26,4 +27,5 @@ returns c =
       steps = chip_stepped k l (driven c.args.cycle) k.statuses.now ran means c.step.ensures.part room
           (put_own k.part k.reader.bus c.args.cycle (room_own k room));
       runs = record { chip = ran; kept = kept; part = c.step.ensures.part; statuses = c.step.ensures.statuses };
+      goes_on = subst (λ x. GoesOn (chip_of k) (chip_of l) x) c.cycle-kind.ensures c.step.ensures.goes_on;
     }

@@ -19,4 +19,5 @@ returns c =
           (subst (λ b. own k.part (moved k.reader.bus (act_of k.reader.bus (gave b))) ≡ true) (sym c.byte_out-byte.ensures)
           (take_own k.part k.reader.bus (memory_of k) (room_own k room)));
       runs = (c.byte_out-byte.ensures, read_out k.part (chip_of k) c.byte_out-byte.result c.byte_out-byte.ensures, record { chip = c.step.ensures.chip; kept = c.step.ensures.kept; part = c.step.ensures.part; statuses = c.step.ensures.statuses });
+      goes_on = c.step.ensures.goes_on;
     }

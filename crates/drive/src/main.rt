@@ -14,8 +14,10 @@ use running::{drive_chip, drive_tape};
 use settings::Settings;
 use std::io;
 use std::io::{BufRead, BufReader, BufWriter, Write};
+use std::process::ExitCode;
 
-fn read_script(rt: &HostRuntime) -> io::Result<Script> {
+// The script, or nothing once the line that cannot be read is named.
+fn read_script(rt: &HostRuntime) -> io::Result<Option<Script>> {
     let heap = rt.alloc();
     let mut script = Script::new(heap);
     let mut number = 0u64;
@@ -23,10 +25,10 @@ fn read_script(rt: &HostRuntime) -> io::Result<Script> {
         number = number.saturating_add(1);
         if let Err(wrong) = script.add_line(heap, line?.as_slice()) {
             eprintln!(rt; "line {number}: {wrong}")?;
-            return Err(io::Error::other("not a script"));
+            return Ok(None);
         }
     }
-    Ok(script)
+    Ok(Some(script))
 }
 
 fn drive<W: Write>(rt: &HostRuntime, out: &mut W, script: Script) -> io::Result<()> {
@@ -45,9 +47,12 @@ fn drive<W: Write>(rt: &HostRuntime, out: &mut W, script: Script) -> io::Result<
     }
 }
 
-fn main(rt: HostRuntime) -> io::Result<()> {
-    let script = read_script(&rt)?;
+fn main(rt: HostRuntime) -> io::Result<ExitCode> {
+    let Some(script) = read_script(&rt)? else {
+        return Ok(ExitCode::FAILURE);
+    };
     let mut out = BufWriter::new(rt.alloc(), rt.stdout())?;
     drive(&rt, &mut out, script)?;
-    out.flush()
+    out.flush()?;
+    Ok(ExitCode::SUCCESS)
 }

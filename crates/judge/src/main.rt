@@ -14,6 +14,7 @@ use flash::record::BlockRecord;
 use judging::{Ending, Judging};
 use std::fs::File;
 use std::io::{BufWriter, Read};
+use std::process::ExitCode;
 use std::{env, io};
 
 fn judge<R: Read>(rt: &HostRuntime, input: &mut R) -> io::Result<Ending> {
@@ -22,27 +23,27 @@ fn judge<R: Read>(rt: &HostRuntime, input: &mut R) -> io::Result<Ending> {
     Judging::new(rt.alloc(), teller, BufWriter::new(rt.alloc(), rt.stdout())?).run(input)
 }
 
-fn judge_input(rt: &HostRuntime) -> io::Result<()> {
+fn judge_input(rt: &HostRuntime) -> io::Result<ExitCode> {
     match judge(rt, &mut rt.stdin())? {
-        Ending::Whole => Ok(()),
+        Ending::Whole => Ok(ExitCode::SUCCESS),
         Ending::NotACycle { line } => {
             eprintln!(rt; "line {line}: not a cycle")?;
-            Err(io::Error::other("not a cycle"))
+            Ok(ExitCode::FAILURE)
         }
     }
 }
 
-fn judge_file(rt: &HostRuntime, name: &String, file: &mut File) -> io::Result<()> {
+fn judge_file(rt: &HostRuntime, name: &String, file: &mut File) -> io::Result<ExitCode> {
     match judge(rt, file)? {
-        Ending::Whole => Ok(()),
+        Ending::Whole => Ok(ExitCode::SUCCESS),
         Ending::NotACycle { line } => {
             eprintln!(rt; "{name}: line {line}: not a cycle")?;
-            Err(io::Error::other("not a cycle"))
+            Ok(ExitCode::FAILURE)
         }
     }
 }
 
-fn judge_named(rt: &HostRuntime, name: &String) -> io::Result<()> {
+fn judge_named(rt: &HostRuntime, name: &String) -> io::Result<ExitCode> {
     if name.as_str() == "-" {
         println!(rt; "# {name}")?;
         return judge_input(rt);
@@ -54,16 +55,23 @@ fn judge_named(rt: &HostRuntime, name: &String) -> io::Result<()> {
         }
         Err(error) => {
             eprintln!(rt; "{name}: {error}")?;
-            Err(error)
+            Ok(ExitCode::FAILURE)
         }
     }
 }
 
-fn main(rt: HostRuntime) -> io::Result<()> {
+fn main(rt: HostRuntime) -> io::Result<ExitCode> {
     let mut named = false;
     for name in env::args(&rt)?.skip(1) {
         named = true;
-        judge_named(&rt, &name)?;
+        let code = judge_named(&rt, &name)?;
+        if code != ExitCode::SUCCESS {
+            return Ok(code);
+        }
     }
-    if named { Ok(()) } else { judge_input(&rt) }
+    if named {
+        Ok(ExitCode::SUCCESS)
+    } else {
+        judge_input(&rt)
+    }
 }

@@ -74,7 +74,7 @@ pub record Worked : Type 0 where
   pub last_row : row_bytes (Some OneGbit) (row_at (page 1023 63)) ≡ 0xFF ∷ 0xFF ∷ []
   pub no_block : (k : BlockRecord) (ks : List BlockRecord) (room : ℕ) → refusal (session k ks standing.Ready) room (call.Erase 1024) 0 ≡ Some (fault.NoSuchBlock 1024)
   -- a program of two bytes: eight cycles, so room 8 suffices and room 7 does not
-  pub program_cycles_lem : (n : ℕ) (rs : List ℕ) → cycles (Some OneGbit) n (call.Program (page 1 0) (column 0)) (0xAA ∷ 0x55 ∷ []) rs
+  pub program_puts : (n : ℕ) (rs : List ℕ) → cycles (Some OneGbit) n (call.Program (page 1 0) (column 0)) (0xAA ∷ 0x55 ∷ []) rs
       ≡ command 0x80 ∷ address 0x00 ∷ address 0x00 ∷ address 0x40 ∷ address 0x00 ∷ given 0xAA ∷ given 0x55 ∷ command 0x10 ∷ []
   pub program_told : decode (Some OneGbit) (command 0x80 ∷ address 0x00 ∷ address 0x00 ∷ address 0x40 ∷ address 0x00 ∷ given 0xAA ∷ given 0x55 ∷ command 0x10 ∷ [])
       ≡ program confirm.Program (record { block = 1; page = 0; column = 0 }) (0xAA ∷ 0x55 ∷ []) ∷ []

@@ -16,7 +16,7 @@ use Rattle.driver.specs.Views.{View}
 use Rattle.driver.specs.declared.session.Session.{Session}
 use Rattle.driver.specs.declared.standing.Standing.TheVariants as standing
 use Rattle.driver.proofs.Holds.{Held}
-use Rattle.driver.proofs.Runs.{Stands, Goes_on, turned, offered_goes, passed_over, not_offered_goes, law_push, cycles_push}
+use Rattle.driver.proofs.Runs.{Stands, GoesOn, turned, offered_goes, passed_over, not_offered_goes, law_push, cycles_push}
 
 -- the calls qs were made of a session opened on the port a, and it is now at this stage
 pub record Following {X : Type 0} (p : Ghosts X) (n : ℕ) (qs : List (Call × List ℕ)) (rs : List turns.Answer) (a : X) (st : Stage) (s : Session X) : Type 0 where
@@ -64,7 +64,7 @@ module _ {X : Type 0} {p : Ghosts X} (n : ℕ) (a : X) where
 
   -- one turn more
   module _ {qs : List (Call × List ℕ)} {rs : List turns.Answer} {st : Stage} (s t : Session X) (k : Following p n qs rs a st s) (c : Call) (bs : List ℕ) where
-    goes : (x : Turn) → x.call ≡ c → x.bytes ≡ bs → Goes_on p n k.at x s t → Following p n (qs ++ (c, bs) ∷ []) (rs ++ x.answer ∷ []) a (stage_after st c) t
+    goes : (x : Turn) → x.call ≡ c → x.bytes ≡ bs → GoesOn p n k.at x s t → Following p n (qs ++ (c, bs) ∷ []) (rs ++ x.answer ∷ []) a (stage_after st c) t
     goes x e i g = record {
       turns = k.turns ++ x ∷ [];
       asked = map-append asked_in k.turns (x ∷ []) ∙ (ap (λ ys. ys ++ asked_in x ∷ []) k.asked ∙ (ap (λ y. qs ++ (y, x.bytes) ∷ []) e ∙ ap (λ y. qs ++ (c, y) ∷ []) i));
@@ -84,4 +84,4 @@ module _ {X : Type 0} {p : Ghosts X} (n : ℕ) (a : X) where
         goes (turned n k.at s t k.stands c bs r d.1) refl refl (offered_goes n k.at s t k.stands c bs r d.1 (ap (λ y. offers y c) k.stage ∙ d.0))
     following_more not_offered d =
         goes (passed_over n k.at s k.stands c bs) refl refl
-        (subst (λ y. Goes_on p n k.at (passed_over n k.at s k.stands c bs) s y) (sym d.1) (not_offered_goes n k.at s k.stands c bs (ap (λ y. offers y c) k.stage ∙ d.0)))
+        (subst (λ y. GoesOn p n k.at (passed_over n k.at s k.stands c bs) s y) (sym d.1) (not_offered_goes n k.at s k.stands c bs (ap (λ y. offers y c) k.stage ∙ d.0)))

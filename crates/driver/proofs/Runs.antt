@@ -106,7 +106,7 @@ view_is n w s k =
     ∙ ap (λ t. record { part = (view_of s).part; polls = (view_of s).polls; blocks = (view_of s).blocks; standing = t }) (sym k.stands))
 
 -- a turn, and the session after it
-pub record Goes_on {X : Type 0} (p : Ghosts X) (n : ℕ) (w : Where) (x : Turn) (s t : Session X) : Type 0 where
+pub record GoesOn {X : Type 0} (p : Ghosts X) (n : ℕ) (w : Where) (x : Turn) (s t : Session X) : Type 0 where
   pub lawful : Lawful n w x (p.meaning t.port).room
   pub stands : Stands p n (advanced w x (p.meaning t.port).room) t
   pub trails : (p.meaning t.port).trail ≡ foldl p.moves (p.meaning s.port).trail x.cycles
@@ -156,7 +156,7 @@ module _ {X : Type 0} {p : Ghosts X} (n : ℕ) (w : Where) (s t : Session X) (k 
         (slips_move (view_of s) (p.meaning s.port).room c (length bs) d.replies ∙ ap (λ (v : View). returned c (outcome (view_of s) (p.meaning s.port).room c (length bs) d.replies).reply + out_of v.standing) (sym d.views)) in
         omega (arith, m, k.slips, working_is (view_of s) w.reader k.held, working_is (view_of t) (p.meaning t.port).reader held_after)
 
-    pub offered_goes : offers w.stage c ≡ true → Goes_on p n w turned s t
+    pub offered_goes : offers w.stage c ≡ true → GoesOn p n w turned s t
     unfolding turned
     offered_goes o = record {
       lawful = record {
@@ -193,7 +193,7 @@ module _ {X : Type 0} {p : Ghosts X} (n : ℕ) (w : Where) (s : Session X) (k : 
   unfoldable pub passed_over : Turn
   passed_over = record { call = c; bytes = bs; answer = not_offered; cycles = []; before = w.reader; after = w.reader; room = w.room }
 
-  pub not_offered_goes : offers w.stage c ≡ false → Goes_on p n w passed_over s s
+  pub not_offered_goes : offers w.stage c ≡ false → GoesOn p n w passed_over s s
   unfolding passed_over
   not_offered_goes o = record {
     lawful = record {

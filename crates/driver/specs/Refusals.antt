@@ -1,5 +1,5 @@
 -- Where a call is turned away before anything is put: the first reason that holds.
-use Rattle.std.specs.Prelude.{ℕ, ◌+◌, Bool, true, false, cond, not, ◌&&◌, List, get_or, Some, None, Option, ◌==◌, nat_le, nat_lt, slice_index_or}
+use Rattle.std.specs.Prelude.{ℕ, ◌+◌, Bool, true, false, cond, not, ◌&&◌, List, Some, None, Option, ◌==◌, nat_le, nat_lt, slice_index_or}
 use Rattle.flash.specs.Records.{first_record}
 use Rattle.flash.specs.declared.address.Column.{Column}
 use Rattle.flash.specs.declared.fault.Fault.{Fault}
@@ -96,7 +96,7 @@ argument_fault o (call.Record b) z = block_fault o b
 -- ## Record
 
 abbrev pub program_fault : Option Part → List BlockRecord → Page → Bool → Option Fault
-program_fault o ks p chain = or_else (unfit p (slice_index_or ks p.block first_record)) (unready p chain (allowed_in o) (get_or ks p.block first_record).pages)
+program_fault o ks p chain = or_else (unfit p (slice_index_or ks p.block first_record)) (unready p chain (allowed_in o) (slice_index_or ks p.block first_record).pages)
 
 abbrev pub record_fault : Option Part → List BlockRecord → Call → Option Fault
 record_fault o ks call.Identify = None

@@ -15,20 +15,20 @@ use flash::page::Page;
 use flash::record::BlockRecord;
 use port::port::Port;
 
-fn unit_answer(res: Result<(), Fault>) -> Answer
-    ensures { answer_of result ≡ answered (unit_reply res) }
+fn unit_answer(came: Result<(), Fault>) -> Answer
+    ensures { answer_of result ≡ answered (unit_reply came) }
 {
-    match res {
+    match came {
         Ok(()) => Answer::Done,
         Err(fault) => Answer::Refused(fault),
     }
 }
 
 // The slip is spent: in a script it goes by its number.
-fn slip_answer(res: Result<Slip, Fault>) -> Answer
-    ensures { answer_of result ≡ answered (slip_reply res) }
+fn slip_answer(came: Result<Slip, Fault>) -> Answer
+    ensures { answer_of result ≡ answered (slip_reply came) }
 {
-    match res {
+    match came {
         Ok(mut slip) => {
             let number = slip.number;
             slip.number = 0;
@@ -38,28 +38,28 @@ fn slip_answer(res: Result<Slip, Fault>) -> Answer
     }
 }
 
-fn byte_answer(res: Result<u8, Fault>) -> Answer
-    ensures { answer_of result ≡ answered (byte_reply res) }
+fn byte_answer(came: Result<u8, Fault>) -> Answer
+    ensures { answer_of result ≡ answered (byte_reply came) }
 {
-    match res {
+    match came {
         Ok(byte) => Answer::Byte(byte),
         Err(fault) => Answer::Refused(fault),
     }
 }
 
-fn known_answer(res: Result<BlockRecord, Fault>) -> Answer
-    ensures { answer_of result ≡ answered (known_reply res) }
+fn known_answer(came: Result<BlockRecord, Fault>) -> Answer
+    ensures { answer_of result ≡ answered (known_reply came) }
 {
-    match res {
+    match came {
         Ok(block) => Answer::Known(block),
         Err(fault) => Answer::Refused(fault),
     }
 }
 
-fn chain_answer(res: Result<(), Fault>, number: u32) -> Answer
-    ensures { answer_of result ≡ answered (chain_reply res number) }
+fn chain_answer(came: Result<(), Fault>, number: u32) -> Answer
+    ensures { answer_of result ≡ answered (chain_reply came number) }
 {
-    match res {
+    match came {
         Ok(()) => Answer::Slip(number),
         Err(fault) => Answer::Refused(fault),
     }

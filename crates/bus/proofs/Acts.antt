@@ -1,5 +1,5 @@
 -- What an act tells of its cycle, and of the phase that the cycle met.
-use Rattle.std.proofs.Common.{◌≡◌, ℕ, ◌<◌, true, Some, arith}
+use Rattle.std.proofs.Common.{◌≡◌, ℕ, ◌<◌, true, Some, Option, arith}
 use Rattle.std.proofs.lemmas.Bool.Decides.{nat_tests}
 use Rattle.flash.specs.Addresses.{block_of}
 use Rattle.flash.specs.declared.address.Column.{Column}
@@ -15,7 +15,7 @@ use Rattle.bus.specs.declared.act.Act.TheVariants as act
 use Rattle.bus.specs.declared.state.BusState.{BusState}
 use Rattle.bus.specs.declared.state.Phase.{Phase}
 use Rattle.bus.specs.declared.state.Phase.TheVariants as phase
-use Rattle.bus.specs.declared.state.Register.{Register}
+use Rattle.bus.specs.declared.state.PageRead.{PageRead}
 use Rattle.bus.specs.declared.state.Setup.{Setup}
 use Rattle.bus.specs.declared.state.Setup.TheVariants as setup
 
@@ -75,5 +75,5 @@ module _ (u : BusState) (c : Cycle) where
   status_phase b e = status_given u u.phase c.byte b (rw (status_kind b e) at e)
 
   -- a row is taken only if it lies in the part
-  pub row_in_part : (s : Setup) (k : Column) (w : Row) (g : Register) → act_of u c ≡ act.Prepare (phase.Addressed s k w) g → block_of w < blocks_in u.part
+  pub row_in_part : (s : Setup) (k : Column) (w : Row) (g : Option PageRead) → act_of u c ≡ act.Prepare (phase.Addressed s k w) g → block_of w < blocks_in u.part
   row_in_part s k w g e = grind (arith, nat_tests)

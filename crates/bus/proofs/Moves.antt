@@ -1,5 +1,5 @@
 -- Where the bus stands after an act.
-use Rattle.std.proofs.Common.{◌≡◌, ℕ, ◌<◌, ◌≤◌, Some, arith}
+use Rattle.std.proofs.Common.{◌≡◌, ℕ, ◌<◌, ◌≤◌, Some, Option, arith}
 use Rattle.flash.specs.declared.address.Column.{Column}
 use Rattle.flash.specs.declared.address.Row.{Row}
 use Rattle.flash.specs.declared.part.Part.{Part}
@@ -11,9 +11,9 @@ use Rattle.bus.specs.States.{blocks_in, allowed_in}
 use Rattle.bus.specs.declared.act.Act.{Act}
 use Rattle.bus.specs.declared.act.Act.TheVariants as act
 use Rattle.bus.specs.declared.state.BusState.{BusState}
-use Rattle.bus.specs.declared.state.Busy.TheVariants as busy
+use Rattle.bus.specs.declared.state.Work.TheVariants as work
 use Rattle.bus.specs.declared.state.Phase.TheVariants as phase
-use Rattle.bus.specs.declared.state.Register.{Register}
+use Rattle.bus.specs.declared.state.PageRead.{PageRead}
 use Rattle.bus.specs.declared.state.Setup.{Setup}
 
 module _ (u : BusState) (a : Act) where
@@ -32,13 +32,13 @@ module _ (u : BusState) (a : Act) where
   -- a row that stands given was so before the act, or is given by it
   pub addressed : (s : Setup) (k : Column) (w : Row) (n : ℕ)
       → (u.phase ≡ phase.Addressed s k w → block_of w < n)
-      → ((g : Register) → a ≡ act.Prepare (phase.Addressed s k w) g → block_of w < n)
+      → ((g : Option PageRead) → a ≡ act.Prepare (phase.Addressed s k w) g → block_of w < n)
       → (moved u a).phase ≡ phase.Addressed s k w → block_of w < n
   addressed s k w n before by e = grind arith
 
   -- an erase that is busy was so before the act, or begins with it
   pub erasing : (b : ℕ) (q : Pages)
-      → (u.busy ≡ busy.Erase b → q ≡ Stale)
+      → (u.busy ≡ Some (work.Erase b) → q ≡ Stale)
       → ((w : Row) → a ≡ act.Erase w → block_of w ≡ b → q ≡ Stale)
-      → (moved u a).busy ≡ busy.Erase b → q ≡ Stale
+      → (moved u a).busy ≡ Some (work.Erase b) → q ≡ Stale
   erasing b q before by e = grind arith

@@ -1,5 +1,5 @@
 -- One step from a sound reader: what becomes of each block's pages, and a sound reader.
-use Rattle.std.proofs.Common.{◌≡◌, ℕ, ◌<◌, ◌≤◌, true, ◌⊎◌, List, [], ◌∷◌, replicate, Option, refl, ap, ◌∙◌, inl, inr, ⊎_elim, arith}
+use Rattle.std.proofs.Common.{◌≡◌, ℕ, ◌<◌, ◌≤◌, true, ◌⊎◌, List, [], ◌∷◌, replicate, Some, Option, refl, ap, ◌∙◌, inl, inr, ⊎_elim, arith}
 use Rattle.std.proofs.lemmas.Bool.{both_ways, lt-ltb}
 use Rattle.std.proofs.lemmas.Bool.Decides.{nat_tests}
 use Rattle.flash.specs.Addresses.{block_of}
@@ -22,7 +22,7 @@ use Rattle.bus.specs.declared.act.Act.{Act}
 use Rattle.bus.specs.declared.act.Act.TheVariants as act
 use Rattle.bus.specs.declared.state.BusState.{BusState}
 use Rattle.bus.specs.declared.state.Setup.TheVariants as setup
-use Rattle.bus.specs.declared.state.Busy.TheVariants as busy
+use Rattle.bus.specs.declared.state.Work.TheVariants as work
 
 -- a part with blocks allows programs
 some_allowed : (o : Option Part) (b : ℕ) → b < blocks_in o → 0 < allowed_in o
@@ -45,7 +45,7 @@ module _ (r : Reader) (c : Cycle) (b : ℕ) {p q : Pages} where
   turn_within (blank e w) h = rw e (omega arith)
   turn_within (more page l e) h = rw e (program_within p _ page (some_allowed r.bus.part b l) h)
 
-  turn_fresh : Turn r c b p q → (r.bus.busy ≡ busy.Erase b → p ≡ Stale) → is_fresh p ≡ true
+  turn_fresh : Turn r c b p q → (r.bus.busy ≡ Some (work.Erase b) → p ≡ Stale) → is_fresh p ≡ true
       → NoLower p q ⊎ ((q ≡ Stale) × (EraseConfirmed r c b ⊎ WorkCutOff r c b))
   turn_fresh (same e) h f = inl (rw e (no_lower_same p f))
   turn_fresh (gone e w) h f = inr (e, w)
@@ -68,11 +68,11 @@ freshness r c h = record {
 erase_begins : (r : Reader) (a : Act) (w : Row) (b : ℕ) → a ≡ act.Erase w → block_of w ≡ b → block_of w < blocks_in r.bus.part → (block_in (done r a) b).pages ≡ Stale
 erase_begins r a w b e i l = rw (e, ← i, lt-ltb (block_of w) (blocks_in r.bus.part) l) (stale_set r.blocks (block_of w))
 
-erase_ends : (r : Reader) (c : Cycle) (b : ℕ) → EraseEndedWell r c b → (moved r.bus (act_of r.bus c)).busy ≡ busy.Erase b → ⊥
+erase_ends : (r : Reader) (c : Cycle) (b : ℕ) → EraseEndedWell r c b → (moved r.bus (act_of r.bus c)).busy ≡ Some (work.Erase b) → ⊥
 erase_ends r c b w e = grind arith
 
 module _ (r : Reader) (c : Cycle) (h : Sound r) where
-  still_stale : (b : ℕ) → (step r c).bus.busy ≡ busy.Erase b → r.bus.busy ≡ busy.Erase b → (block_in (step r c) b).pages ≡ Stale
+  still_stale : (b : ℕ) → (step r c).bus.busy ≡ Some (work.Erase b) → r.bus.busy ≡ Some (work.Erase b) → (block_in (step r c) b).pages ≡ Stale
   unfolding step
   still_stale b e i = ⊎_elim (λ s. s) (λ w. absurd (erase_ends r c b w.1 e)) (turn_stale r c b (turn r c b) (h.erasing b i))
 

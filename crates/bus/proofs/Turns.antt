@@ -1,5 +1,5 @@
 -- What one cycle does to the pages of a block.
-use Rattle.std.proofs.Common.{◌≡◌, ℕ, ◌<◌, cond, ◌⊎◌, Some, None, refl, inl, inr, arith}
+use Rattle.std.proofs.Common.{◌≡◌, ℕ, ◌<◌, cond, ◌⊎◌, Some, None, Option, refl, inl, inr, arith}
 use Rattle.flash.specs.Addresses.{page_of}
 use Rattle.flash.specs.Records.{pages_after, program_ended, erase_ended, mark_read}
 use Rattle.flash.specs.Statuses.{ready, verdict_of}
@@ -17,8 +17,8 @@ use Rattle.bus.specs.Bus.{Reader, step, concerns, changed, work_done, work_ended
 use Rattle.bus.specs.States.{blocks_in, allowed_in}
 use Rattle.bus.specs.declared.act.Act.{Act}
 use Rattle.bus.specs.declared.act.Act.TheVariants as act
-use Rattle.bus.specs.declared.state.Busy.{Busy}
-use Rattle.bus.specs.declared.state.Busy.TheVariants as busy
+use Rattle.bus.specs.declared.state.Work.{Work}
+use Rattle.bus.specs.declared.state.Work.TheVariants as work
 
 -- a block's pages before and after a cycle: the same, or stale by a confirmed erase or work cut off,
 -- or blank by an erase that ended well, or after a program
@@ -41,14 +41,14 @@ module _ (r : Reader) (c : Cycle) (b : ℕ) (k : BlockRecord) where
   erase_turn Failed w = same refl
   erase_turn Protected w = same refl
 
-  status_turn : (d : ℕ) (v : Busy) → r.bus.busy ≡ v → act_of r.bus c ≡ act.Status d → cond (ready d) (work_done v) None ≡ Some b
+  status_turn : (d : ℕ) (v : Option Work) → r.bus.busy ≡ v → act_of r.bus c ≡ act.Status d → cond (ready d) (work_done v) None ≡ Some b
       → Turn r c b k.pages (work_ended v d k).pages
-  status_turn d busy.Nothing i e h = same refl
-  status_turn d busy.Reset i e h = same refl
-  status_turn d (busy.Read w s f) i e h = same refl
-  status_turn d busy.CachePage i e h = same refl
-  status_turn d (busy.Program n) i e h = same (program_pages (verdict_of d) k)
-  status_turn d (busy.Erase n) i e h = erase_turn (verdict_of d) (λ g. record {
+  status_turn d None i e h = same refl
+  status_turn d (Some work.Reset) i e h = same refl
+  status_turn d (Some (work.Read x)) i e h = same refl
+  status_turn d (Some work.CachePage) i e h = same refl
+  status_turn d (Some (work.Program n)) i e h = same (program_pages (verdict_of d) k)
+  status_turn d (Some (work.Erase n)) i e h = erase_turn (verdict_of d) (λ g. record {
     status = status_phase r.bus c d e;
     byte = status_kind r.bus c d e;
     erase = grind arith;
@@ -64,7 +64,7 @@ module _ (r : Reader) (c : Cycle) (b : ℕ) (k : BlockRecord) where
   act_turn (act.Prepare p g) e h l = same refl
   act_turn (act.Status d) e h l = status_turn d r.bus.busy refl e h
   act_turn (act.Identify bs) e h l = same refl
-  act_turn (act.Read w s f) e h l = same refl
+  act_turn (act.Read x) e h l = same refl
   act_turn (act.Data w s d) e h l = same (mark_pages (page_of w) d k)
   act_turn (act.Erase w) e h l = gone refl (inl (record { command = erase_command r.bus c w e; column = _; row = w; given = erase_row r.bus c w e; block = cc }))
   act_turn (act.Load w s n d) e h l = same refl

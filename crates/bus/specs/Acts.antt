@@ -17,8 +17,7 @@ use Rattle.bus.specs.declared.state.Setup.{Setup}
 use Rattle.bus.specs.declared.state.Setup.TheVariants as setup
 use Rattle.bus.specs.declared.state.Phase.{Phase}
 use Rattle.bus.specs.declared.state.Phase.TheVariants as phase
-use Rattle.bus.specs.declared.state.Register.{Register}
-use Rattle.bus.specs.declared.state.Register.TheVariants as register
+use Rattle.bus.specs.declared.state.PageRead.{PageRead}
 use Rattle.bus.specs.declared.state.BusState.{BusState}
 
 abbrev pub when_idle : BusState → Act → Act
@@ -40,7 +39,7 @@ read_confirmed f phase.Identity = act.OutOfPlace
 read_confirmed f (phase.IdentityBytes g) = act.OutOfPlace
 read_confirmed f phase.ReadSetup = act.OutOfPlace
 read_confirmed f (phase.Addressing s g) = act.OutOfPlace
-read_confirmed f (phase.Addressed setup.Read c w) = act.Read w c f
+read_confirmed f (phase.Addressed setup.Read c w) = act.Read (record { row = w; column = c; copy = f })
 read_confirmed f (phase.Addressed setup.Erase c w) = act.OutOfPlace
 read_confirmed f (phase.Addressed setup.Program c w) = act.OutOfPlace
 read_confirmed f (phase.Addressed setup.Copy c w) = act.OutOfPlace
@@ -89,14 +88,14 @@ cache_confirmed (phase.Loading w s n) = act.Program w s confirm.Cache
 abbrev pub commanded : BusState → Opcode → Act
 commanded u op.Reset = act.Reset
 commanded u op.ReadStatus = when (quiet u.phase) (act.Prepare phase.Status u.register)
-commanded u op.ReadId = when_idle u (when (quiet u.phase && closed u.chain) (act.Prepare phase.Identity register.Empty))
+commanded u op.ReadId = when_idle u (when (quiet u.phase && closed u.chain) (act.Prepare phase.Identity None))
 commanded u op.Read = when_idle u (when (begins u) (act.Prepare phase.ReadSetup u.register))
 commanded u op.ReadConfirm = when_idle u (when (closed u.chain) (read_confirmed false u.phase))
 commanded u op.CopyReadConfirm = when_idle u (when (closed u.chain) (read_confirmed true u.phase))
-commanded u op.Erase = when_idle u (when (begins u) (act.Prepare (phase.Addressing setup.Erase column_skipped) register.Empty))
+commanded u op.Erase = when_idle u (when (begins u) (act.Prepare (phase.Addressing setup.Erase column_skipped) None))
 commanded u op.EraseConfirm = when_idle u (when (closed u.chain) (erase_confirmed u.phase))
-commanded u op.Program = when_idle u (when (quiet u.phase && known u.part) (act.Prepare (phase.Addressing setup.Program nothing_given) register.Empty))
-commanded u op.CopyProgram = when_idle u (when (begins u && copy_up u.register) (act.Prepare (phase.Addressing setup.Copy nothing_given) register.Empty))
+commanded u op.Program = when_idle u (when (quiet u.phase && known u.part) (act.Prepare (phase.Addressing setup.Program nothing_given) None))
+commanded u op.CopyProgram = when_idle u (when (begins u && copy_up u.register) (act.Prepare (phase.Addressing setup.Copy nothing_given) None))
 commanded u op.ProgramConfirm = when_idle u (program_confirmed u.phase)
 commanded u op.CacheConfirm = when_idle u (cache_confirmed u.phase)
 
@@ -132,7 +131,7 @@ address u phase.Status b = act.OutOfPlace
 address u phase.Output b = act.OutOfPlace
 address u phase.Identity b = when (b == 0) (act.Prepare (phase.IdentityBytes nothing_given) u.register)
 address u (phase.IdentityBytes g) b = act.OutOfPlace
-address u phase.ReadSetup b = act.Prepare (phase.Addressing setup.Read (plus nothing_given b)) register.Empty
+address u phase.ReadSetup b = act.Prepare (phase.Addressing setup.Read (plus nothing_given b)) None
 address u (phase.Addressing s g) b = addressing u s (plus g b)
 address u (phase.Addressed s c w) b = act.OutOfPlace
 address u (phase.Loading w s n) b = act.OutOfPlace
@@ -159,9 +158,9 @@ data_in (phase.Loading w s n) b = loading w s n b
 abbrev pub identity : BusState → Given → Act
 identity u g = cond (nat_lt g.count 5) (act.Prepare (phase.IdentityBytes g) u.register) (act.Identify g.bytes)
 
-abbrev pub output : Register → ℕ → Act
-output register.Empty b = act.OutOfPlace
-output (register.Full w c f) b = when (in_page c) (act.Data w c b)
+abbrev pub output : Option PageRead → ℕ → Act
+output None b = act.OutOfPlace
+output (Some x) b = when (in_page x.column) (act.Data x.row x.column b)
 
 abbrev pub data_out : BusState → Phase → ℕ → Act
 data_out u phase.Quiet b = act.OutOfPlace

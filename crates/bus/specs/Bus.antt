@@ -18,10 +18,9 @@ use Rattle.bus.specs.declared.act.Confirm.TheVariants as confirm
 use Rattle.bus.specs.declared.breach.Breaches.{Breaches}
 use Rattle.bus.specs.declared.state.Phase.{Phase}
 use Rattle.bus.specs.declared.state.Phase.TheVariants as phase
-use Rattle.bus.specs.declared.state.Busy.{Busy}
-use Rattle.bus.specs.declared.state.Busy.TheVariants as busy
-use Rattle.bus.specs.declared.state.Register.{Register}
-use Rattle.bus.specs.declared.state.Register.TheVariants as register
+use Rattle.bus.specs.declared.state.Work.{Work}
+use Rattle.bus.specs.declared.state.Work.TheVariants as work
+use Rattle.bus.specs.declared.state.PageRead.{PageRead}
 use Rattle.bus.specs.declared.state.BusState.{BusState}
 
 -- what the bus reader holds: where the bus stands, and a record for each block
@@ -34,17 +33,17 @@ abbrev pub first : Reader
 first = record { bus = first_bus; blocks = replicate 2048 first_record }
 
 -- the bus at another phase, busy, register and chain; part and breaches stay
-abbrev pub at : BusState → Phase → Busy → Register → Option ℕ → BusState
+abbrev pub at : BusState → Phase → Option Work → Option PageRead → Option ℕ → BusState
 at u p b g c = record { part = u.part; phase = p; busy = b; register = g; chain = c; breaches = u.breaches }
 
 -- what is busy ends
-abbrev pub ended : BusState → Busy → BusState
-ended u busy.Nothing = u
-ended u busy.Reset = at u u.phase busy.Nothing u.register u.chain
-ended u (busy.Read w c f) = at u u.phase busy.Nothing (register.Full w c f) u.chain
-ended u busy.CachePage = at u u.phase busy.Nothing u.register u.chain
-ended u (busy.Program b) = at u u.phase busy.Nothing u.register None
-ended u (busy.Erase b) = at u u.phase busy.Nothing u.register u.chain
+abbrev pub ended : BusState → Option Work → BusState
+ended u None = u
+ended u (Some work.Reset) = at u u.phase None u.register u.chain
+ended u (Some (work.Read x)) = at u u.phase None (Some x) u.chain
+ended u (Some work.CachePage) = at u u.phase None u.register u.chain
+ended u (Some (work.Program b)) = at u u.phase None u.register None
+ended u (Some (work.Erase b)) = at u u.phase None u.register u.chain
 
 -- an unknown part becomes the one with these five bytes, if any
 abbrev pub part_after : Option Part → List ℕ → Option Part
@@ -52,21 +51,21 @@ part_after None bs = identified bs
 part_after (Some p) bs = Some p
 
 abbrev pub confirmed : BusState → ℕ → Confirm → BusState
-confirmed u b confirm.Program = at u phase.Quiet (busy.Program b) u.register u.chain
-confirmed u b confirm.Cache = at u phase.Quiet busy.CachePage u.register (Some b)
-confirmed u b confirm.Copy = at u phase.Quiet (busy.Program b) u.register u.chain
+confirmed u b confirm.Program = at u phase.Quiet (Some (work.Program b)) u.register u.chain
+confirmed u b confirm.Cache = at u phase.Quiet (Some work.CachePage) u.register (Some b)
+confirmed u b confirm.Copy = at u phase.Quiet (Some (work.Program b)) u.register u.chain
 
 -- where the bus stands after an act, its breaches aside
 abbrev pub moved : BusState → Act → BusState
 moved u act.WhileBusy = u
 moved u act.OutOfPlace = u
-moved u act.Reset = at u phase.Quiet busy.Reset register.Empty None
+moved u act.Reset = at u phase.Quiet (Some work.Reset) None None
 moved u (act.Prepare p g) = at u p u.busy g u.chain
 moved u (act.Status b) = cond (ready b) (ended u u.busy) u
 moved u (act.Identify bs) = record { part = part_after u.part bs; phase = phase.Quiet; busy = u.busy; register = u.register; chain = u.chain; breaches = u.breaches }
-moved u (act.Read w c f) = at u phase.Quiet (busy.Read w c f) u.register u.chain
-moved u (act.Data w c b) = at u phase.Output u.busy (register.Full w (next_column c) false) u.chain
-moved u (act.Erase w) = at u phase.Quiet (busy.Erase (block_of w)) u.register u.chain
+moved u (act.Read x) = at u phase.Quiet (Some (work.Read x)) u.register u.chain
+moved u (act.Data w c b) = at u phase.Output u.busy (Some (record { row = w; column = next_column c; copy = false })) u.chain
+moved u (act.Erase w) = at u phase.Quiet (Some (work.Erase (block_of w))) u.register u.chain
 moved u (act.Load w s c b) = at u (phase.Loading w s (next_column c)) u.busy u.register u.chain
 moved u (act.Program w c f) = confirmed u (block_of w) f
 
@@ -75,13 +74,13 @@ abbrev pub counted : BusState → ℕ → BusState
 counted u n = record { part = u.part; phase = u.phase; busy = u.busy; register = u.register; chain = u.chain; breaches = min 65535 (u.breaches + n) }
 
 -- the one block whose record an act concerns
-abbrev pub work_done : Busy → Option ℕ
-work_done busy.Nothing = None
-work_done busy.Reset = None
-work_done (busy.Read w c f) = None
-work_done busy.CachePage = None
-work_done (busy.Program b) = Some b
-work_done (busy.Erase b) = Some b
+abbrev pub work_done : Option Work → Option ℕ
+work_done None = None
+work_done (Some work.Reset) = None
+work_done (Some (work.Read x)) = None
+work_done (Some work.CachePage) = None
+work_done (Some (work.Program b)) = Some b
+work_done (Some (work.Erase b)) = Some b
 
 abbrev pub concerns : BusState → Act → Option ℕ
 concerns u act.WhileBusy = None
@@ -90,20 +89,20 @@ concerns u act.Reset = under_way u
 concerns u (act.Prepare p g) = None
 concerns u (act.Status b) = cond (ready b) (work_done u.busy) None
 concerns u (act.Identify bs) = None
-concerns u (act.Read w c f) = None
+concerns u (act.Read x) = None
 concerns u (act.Data w c b) = cond (at_mark c) (Some (block_of w)) None
 concerns u (act.Erase w) = Some (block_of w)
 concerns u (act.Load w s c b) = None
 concerns u (act.Program w c f) = Some (block_of w)
 
 -- what becomes of that record
-abbrev pub work_ended : Busy → ℕ → BlockRecord → BlockRecord
-work_ended busy.Nothing b k = k
-work_ended busy.Reset b k = k
-work_ended (busy.Read w c f) b k = k
-work_ended busy.CachePage b k = k
-work_ended (busy.Program n) b k = program_ended (verdict_of b) k
-work_ended (busy.Erase n) b k = erase_ended (verdict_of b) k
+abbrev pub work_ended : Option Work → ℕ → BlockRecord → BlockRecord
+work_ended None b k = k
+work_ended (Some work.Reset) b k = k
+work_ended (Some (work.Read x)) b k = k
+work_ended (Some work.CachePage) b k = k
+work_ended (Some (work.Program n)) b k = program_ended (verdict_of b) k
+work_ended (Some (work.Erase n)) b k = erase_ended (verdict_of b) k
 
 abbrev pub changed : BusState → Act → BlockRecord → BlockRecord
 changed u act.WhileBusy k = k
@@ -112,7 +111,7 @@ changed u act.Reset k = stale k
 changed u (act.Prepare p g) k = k
 changed u (act.Status b) k = work_ended u.busy b k
 changed u (act.Identify bs) k = k
-changed u (act.Read w c f) k = k
+changed u (act.Read x) k = k
 changed u (act.Data w c b) k = mark_read (page_of w) b k
 changed u (act.Erase w) k = stale k
 changed u (act.Load w s c b) k = k

@@ -19,10 +19,9 @@ use Rattle.bus.specs.Bus.{Reader, breaches_of, steps}
 use Rattle.bus.specs.States.{allowed_in, blocks_in, idle, under_way}
 use Rattle.bus.specs.declared.breach.Breach.{Breach}
 use Rattle.bus.specs.declared.breach.Breach.TheVariants as breach
-use Rattle.bus.specs.declared.state.Busy.TheVariants as busy
+use Rattle.bus.specs.declared.state.Work.TheVariants as work
 use Rattle.bus.specs.declared.state.Phase.{Phase}
 use Rattle.bus.specs.declared.state.Phase.TheVariants as phase
-use Rattle.bus.specs.declared.state.Register.TheVariants as register
 use Rattle.bus.specs.declared.state.Setup.{Setup}
 use Rattle.bus.specs.declared.state.Setup.TheVariants as setup
 
@@ -70,8 +69,8 @@ pub record Counted (r s : Reader) (c : Cycle) : Type 0 where
 pub record Dropped (r s : Reader) (c : Cycle) : Type 0 where
   pub taken : broken r c ≡ []
   pub phase : s.bus.phase ≡ phase.Quiet
-  pub busy : s.bus.busy ≡ busy.Reset
-  pub register : s.bus.register ≡ register.Empty
+  pub busy : s.bus.busy ≡ Some work.Reset
+  pub register : s.bus.register ≡ None
   pub chain : s.bus.chain ≡ None
 
 -- a cycle that may change a block's record: D0h, 10h, 15h or FFh, a status byte, a byte of the register
@@ -116,7 +115,7 @@ count_of (Last p n) = n
 pub record Sound (r : Reader) : Type 0 where
   pub within : (b : ℕ) → count_of (block_in r b).pages ≤ allowed_in r.bus.part
   pub named : (s : Setup) (k : Column) (w : Row) → r.bus.phase ≡ phase.Addressed s k w → block_of w < blocks_in r.bus.part
-  pub erasing : (b : ℕ) → r.bus.busy ≡ busy.Erase b → (block_in r b).pages ≡ Stale
+  pub erasing : (b : ℕ) → r.bus.busy ≡ Some (work.Erase b) → (block_in r b).pages ≡ Stale
 
 -- fresh pages stay fresh, and the last page is no lower
 abbrev pub NoLower : Pages → Pages → Type 0
@@ -150,7 +149,7 @@ pub record WorkCutOff (r : Reader) (c : Cycle) (b : ℕ) : Type 0 where
 pub record EraseEndedWell (r : Reader) (c : Cycle) (b : ℕ) : Type 0 where
   pub status : r.bus.phase ≡ phase.Status
   pub byte : c.kind ≡ DataOut
-  pub erase : r.bus.busy ≡ busy.Erase b
+  pub erase : r.bus.busy ≡ Some (work.Erase b)
   pub ends : ready c.byte ≡ true
   pub good : verdict_of c.byte ≡ Good
 

@@ -5,14 +5,13 @@ use Rattle.flash.specs.declared.part.Part.{Part}
 use Rattle.bus.specs.declared.state.Given.{Given}
 use Rattle.bus.specs.declared.state.Phase.{Phase}
 use Rattle.bus.specs.declared.state.Phase.TheVariants as phase
-use Rattle.bus.specs.declared.state.Busy.{Busy}
-use Rattle.bus.specs.declared.state.Busy.TheVariants as busy
-use Rattle.bus.specs.declared.state.Register.{Register}
-use Rattle.bus.specs.declared.state.Register.TheVariants as register
+use Rattle.bus.specs.declared.state.Work.{Work}
+use Rattle.bus.specs.declared.state.Work.TheVariants as work
+use Rattle.bus.specs.declared.state.PageRead.{PageRead}
 use Rattle.bus.specs.declared.state.BusState.{BusState}
 
 abbrev pub first_bus : BusState
-first_bus = record { part = None; phase = phase.Quiet; busy = busy.Nothing; register = register.Empty; chain = None; breaches = 0 }
+first_bus = record { part = None; phase = phase.Quiet; busy = None; register = None; chain = None; breaches = 0 }
 
 -- an unknown part has no blocks, no addresses, and allows no program
 abbrev pub blocks_in : Option Part → ℕ
@@ -53,30 +52,26 @@ quiet (phase.Addressing s g) = false
 quiet (phase.Addressed s c w) = false
 quiet (phase.Loading w s n) = false
 
-abbrev pub idle : Busy → Bool
-idle busy.Nothing = true
-idle busy.Reset = false
-idle (busy.Read w c f) = false
-idle busy.CachePage = false
-idle (busy.Program b) = false
-idle (busy.Erase b) = false
+abbrev pub idle : Option Work → Bool
+idle None = true
+idle (Some w) = false
 
 abbrev pub closed : Option ℕ → Bool
 closed None = true
 closed (Some b) = false
 
-abbrev pub copy_up : Register → Bool
-copy_up register.Empty = false
-copy_up (register.Full w c f) = f
+abbrev pub copy_up : Option PageRead → Bool
+copy_up None = false
+copy_up (Some x) = x.copy
 
 -- the block of a program or erase that is busy, or else of an open chain
-abbrev pub work_of : Busy → Option ℕ → Option ℕ
-work_of busy.Nothing c = c
-work_of busy.Reset c = c
-work_of (busy.Read w k f) c = c
-work_of busy.CachePage c = c
-work_of (busy.Program b) c = Some b
-work_of (busy.Erase b) c = Some b
+abbrev pub work_of : Option Work → Option ℕ → Option ℕ
+work_of None c = c
+work_of (Some work.Reset) c = c
+work_of (Some (work.Read x)) c = c
+work_of (Some work.CachePage) c = c
+work_of (Some (work.Program b)) c = Some b
+work_of (Some (work.Erase b)) c = Some b
 
 abbrev pub under_way : BusState → Option ℕ
 under_way u = work_of u.busy u.chain

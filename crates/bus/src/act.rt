@@ -3,7 +3,7 @@ ghost use Rattle.std.specs.Prelude.{◌≡◌, true};
 ghost use Rattle.bus.specs.Acts.{when, begins, read_confirmed, erase_confirmed, program_confirmed, cache_confirmed, commanded, command, nameable, addressing, loading, identity, output, act_of};
 ghost use Rattle.bus.specs.States.{idle, cycles_in, copy_up};
 
-use crate::state::{BusState, Given, Phase, Register, Setup};
+use crate::state::{BusState, Given, PageRead, Phase, Setup};
 use flash::address::{Column, Row};
 use flash::cycle::{Cycle, Kind};
 use flash::opcode::Opcode;
@@ -26,7 +26,7 @@ pub enum Act {
     /// The phase moves on, and the register is kept or emptied; nothing else changes.
     Prepare {
         phase: Phase,
-        register: Register,
+        register: Option<PageRead>,
     },
     Status {
         byte: u8,
@@ -35,11 +35,7 @@ pub enum Act {
     Identify {
         bytes: [u8; 5],
     },
-    Read {
-        row: Row,
-        column: Column,
-        copy: bool,
-    },
+    Read(PageRead),
     /// A byte of the register came.
     Data {
         row: Row,
@@ -63,31 +59,6 @@ pub enum Act {
     },
 }
 
-impl Register {
-    fn copy_up(self) -> bool
-        ensures { result ≡ copy_up self }
-    {
-        match self {
-            Register::Full { copy, .. } => copy,
-            Register::Empty => false,
-        }
-    }
-
-    // A byte of the register, at its column.
-    fn output(self, byte: u8) -> Act
-        ensures { result ≡ output self byte }
-    {
-        match self {
-            Register::Full { row, column, .. } if column.is_in_page() => Act::Data {
-                row,
-                column,
-                byte,
-            },
-            _ => Act::OutOfPlace,
-        }
-    }
-}
-
 impl Phase {
     fn confirm_read(self, copy: bool) -> Act
         ensures { result ≡ read_confirmed copy self }
@@ -97,7 +68,7 @@ impl Phase {
                 setup: Setup::Read,
                 column,
                 row,
-            } => Act::Read { row, column, copy },
+            } => Act::Read(PageRead { row, column, copy }),
             _ => Act::OutOfPlace,
         }
     }
@@ -115,6 +86,7 @@ impl Phase {
         }
     }
 
+    // Two matches on the phase, 10h and 15h each by itself: a copy is confirmed by 10h alone.
     fn confirm_program(self) -> Act
         ensures { result ≡ program_confirmed self }
     {
@@ -153,11 +125,11 @@ impl Phase {
 
 // The register is emptied.
 fn begin(phase: Phase) -> Act
-    ensures { result ≡ Act.Prepare phase Register.Empty }
+    ensures { result ≡ Act.Prepare phase None }
 {
     Act::Prepare {
         phase,
-        register: Register::Empty,
+        register: None,
     }
 }
 
@@ -203,6 +175,13 @@ impl BusState {
         }
     }
 
+    // The copy flag of the register is up.
+    fn copy_up(&self) -> bool
+        ensures { result ≡ copy_up self.now.register }
+    {
+        self.register.is_some_and(|read| read.copy)
+    }
+
     // A command to a chip that is not busy.
     fn idle_command(&self, opcode: Opcode) -> Act
         requires { idle self.now.busy ≡ true }
@@ -235,7 +214,7 @@ impl BusState {
                     setup: Setup::Copy,
                     given: Given::NOTHING,
                 })
-                .when(self.can_begin() && self.register.copy_up())
+                .when(self.can_begin() && self.copy_up())
             }
             Opcode::ProgramConfirm => self.phase.confirm_program(),
             Opcode::CacheConfirm => self.phase.confirm_cache(),
@@ -248,7 +227,7 @@ impl BusState {
         match opcode {
             Some(Opcode::Reset) => Act::Reset,
             Some(Opcode::ReadStatus) => self.prepare(Phase::Status).when(self.phase.is_quiet()),
-            _ if !self.busy.is_nothing() => Act::WhileBusy,
+            _ if self.busy.is_some() => Act::WhileBusy,
             Some(opcode) => self.idle_command(opcode),
             None => Act::OutOfPlace,
         }
@@ -257,10 +236,7 @@ impl BusState {
     fn address_cycles(&self) -> u8
         ensures { result ≡ cycles_in self.now.part }
     {
-        match self.part {
-            Some(part) => part.address_cycles(),
-            None => 0,
-        }
+        self.part.map_or(0, |part| part.address_cycles())
     }
 
     // A row in the part and, while a chain is open, in its block.
@@ -268,10 +244,7 @@ impl BusState {
         ensures { result ≡ nameable self.now row }
     {
         row.block() < u32::from(self.blocks())
-            && match self.chain {
-                Some(block) => row.block() == block,
-                None => true,
-            }
+            && self.chain.is_none_or(|block| row.block() == block)
     }
 
     // The address bytes so far: the last one is judged.
@@ -286,6 +259,20 @@ impl BusState {
         let row = Row::of_bytes(row_low, row_middle, row_high);
         self.prepare(Phase::Addressed { setup, column, row })
             .when(self.can_name(row))
+    }
+
+    // A byte of the register, at its column.
+    fn output(&self, byte: u8) -> Act
+        ensures { result ≡ output self.now.register byte }
+    {
+        match self.register {
+            Some(PageRead { row, column, .. }) if column.is_in_page() => Act::Data {
+                row,
+                column,
+                byte,
+            },
+            _ => Act::OutOfPlace,
+        }
     }
 
     // The identity bytes so far.
@@ -304,8 +291,9 @@ impl BusState {
         ensures { result ≡ act_of self.now cycle }
     {
         let byte = cycle.byte;
+        // the reader is a match on its phase and the cycle: the laws go over these by cases
         match (self.phase, cycle.kind) {
-            (_, Kind::Command) => self.command(Opcode::of(byte)),
+            (_, Kind::Command) => self.command(Opcode::try_from(byte).ok()),
             (Phase::Identity, Kind::Address) => self
                 .prepare(Phase::IdentityBytes {
                     given: Given::NOTHING,
@@ -330,7 +318,7 @@ impl BusState {
             (Phase::Loading { row, start, next }, Kind::DataIn) => load(row, start, next, byte),
             (Phase::Status, Kind::DataOut) => Act::Status { byte },
             (Phase::IdentityBytes { given }, Kind::DataOut) => self.identify(given.plus(byte)),
-            (Phase::ReadSetup | Phase::Output, Kind::DataOut) => self.register.output(byte),
+            (Phase::ReadSetup | Phase::Output, Kind::DataOut) => self.output(byte),
             _ => Act::OutOfPlace,
         }
     }

@@ -1,53 +1,38 @@
 // What an act does: to the bus, and to the record of the one block that it concerns.
 ghost use Rattle.std.specs.Prelude.{◌≡◌};
 ghost use Rattle.bus.specs.Breaches.{how_many, judged};
-ghost use Rattle.bus.specs.Bus.{ended, confirmed, moved, counted, work_done, concerns, work_ended, changed};
+ghost use Rattle.bus.specs.Bus.{ended, confirmed, moved, counted, concerns, work_ended, changed};
 
 use crate::act::{Act, Confirm};
 use crate::breach::Breaches;
-use crate::state::{BusState, Busy, Phase, Register};
+use crate::state::{BusState, PageRead, Phase, Work};
 use flash::part::Part;
 use flash::record::BlockRecord;
 use flash::status::{Verdict, is_ready};
 
-impl Busy {
-    // The block whose program or erase this is.
-    fn block(self) -> Option<u32>
-        ensures { result ≡ work_done self }
+// Matches on the act: the laws go over the acts by cases.
+impl BusState {
+    // What is busy ends with a ready status: what becomes of its block's record.
+    fn end_record(&self, status: u8, block: &mut BlockRecord)
+        ensures { block.new ≡ work_ended self.now.busy status block.old }
     {
-        match self {
-            Busy::Program { block } | Busy::Erase { block } => Some(block),
-            _ => None,
-        }
-    }
-
-    // This work ends with a ready status: what becomes of its block's record.
-    fn end(self, status: u8, block: &mut BlockRecord)
-        ensures { block.new ≡ work_ended self status block.old }
-    {
-        match self {
-            Busy::Program { .. } => block.end_program(Verdict::of(status)),
-            Busy::Erase { .. } => block.end_erase(Verdict::of(status)),
+        match self.busy {
+            Some(Work::Program { .. }) => block.end_program(Verdict::from(status)),
+            Some(Work::Erase { .. }) => block.end_erase(Verdict::from(status)),
             _ => {}
         }
     }
-}
 
-impl BusState {
     // What is busy ends.
     fn end_work(&mut self)
         ensures { self.new ≡ ended self.old self.old.busy }
     {
         match self.busy {
-            Busy::Read { row, column, copy } => self.register = Register::Full {
-                row,
-                column,
-                copy,
-            },
-            Busy::Program { .. } => self.chain = None,
+            Some(Work::Read(read)) => self.register = Some(read),
+            Some(Work::Program { .. }) => self.chain = None,
             _ => {}
         }
-        self.busy = Busy::Nothing;
+        self.busy = None;
     }
 
     fn learn_part(&mut self, bytes: [u8; 5])
@@ -55,7 +40,7 @@ impl BusState {
     {
         self.phase = Phase::Quiet;
         if self.part.is_none() {
-            self.part = Part::of_identity(bytes);
+            self.part = Part::try_from(bytes).ok();
         }
     }
 
@@ -64,9 +49,9 @@ impl BusState {
     {
         self.phase = Phase::Quiet;
         match confirm {
-            Confirm::Program | Confirm::Copy => self.busy = Busy::Program { block },
+            Confirm::Program | Confirm::Copy => self.busy = Some(Work::Program { block }),
             Confirm::Cache => {
-                self.busy = Busy::CachePage;
+                self.busy = Some(Work::CachePage);
                 self.chain = Some(block);
             }
         }
@@ -76,8 +61,8 @@ impl BusState {
         ensures { self.new ≡ moved self.old Act.Reset }
     {
         self.phase = Phase::Quiet;
-        self.busy = Busy::Reset;
-        self.register = Register::Empty;
+        self.busy = Some(Work::Reset);
+        self.register = None;
         self.chain = None;
     }
 
@@ -98,21 +83,21 @@ impl BusState {
                 }
             }
             Act::Identify { bytes } => self.learn_part(bytes),
-            Act::Read { row, column, copy } => {
+            Act::Read(read) => {
                 self.phase = Phase::Quiet;
-                self.busy = Busy::Read { row, column, copy };
+                self.busy = Some(Work::Read(read));
             }
             Act::Data { row, column, .. } => {
                 self.phase = Phase::Output;
-                self.register = Register::Full {
+                self.register = Some(PageRead {
                     row,
                     column: column.next(),
                     copy: false,
-                };
+                });
             }
             Act::Erase { row } => {
                 self.phase = Phase::Quiet;
-                self.busy = Busy::Erase { block: row.block() };
+                self.busy = Some(Work::Erase { block: row.block() });
             }
             Act::Load {
                 row,
@@ -141,7 +126,7 @@ impl BusState {
     {
         match act {
             Act::Reset => self.under_way(),
-            Act::Status { byte } if is_ready(byte) => self.busy.block(),
+            Act::Status { byte } if is_ready(byte) => self.work_block(),
             Act::Data { row, column, .. } if column.is_mark() => Some(row.block()),
             Act::Erase { row } | Act::Program { row, .. } => Some(row.block()),
             _ => None,
@@ -154,7 +139,7 @@ impl BusState {
     {
         match act {
             Act::Reset | Act::Erase { .. } => block.forget_pages(),
-            Act::Status { byte } => self.busy.end(byte, block),
+            Act::Status { byte } => self.end_record(byte, block),
             Act::Data { row, byte, .. } => block.note_mark(row.page(), byte),
             Act::Program { row, .. } => block.note_program(self.programs_allowed(), row.page()),
             _ => {}

@@ -35,7 +35,7 @@ impl<'a> BusReader<'a> {
         ensures first { held result ≡ record { bus = first_bus; blocks = replicate (length blocks.old) first_record } }
         ensures sound { EverSound (held result) }
     {
-        forget_all(blocks);
+        blocks.fill(BlockRecord::FIRST);
         BusReader {
             bus: BusState::FIRST,
             blocks,
@@ -48,31 +48,30 @@ impl BusReader<'_> {
     pub fn bus(&self) -> BusState
         ensures { result ≡ self.now.bus }
     {
-        let BusReader { bus, blocks: _ } = self;
-        *bus
+        self.bus
     }
 
     /// How many block records the reader was lent.
     pub fn records(&self) -> usize
         ensures { result ≡ length (held self.now).blocks }
     {
-        let BusReader { bus: _, blocks } = self;
-        blocks.len()
+        self.blocks.len()
     }
 
     /// What is known of a block; of one without a record, nothing.
     pub fn block(&self, block: u32) -> BlockRecord
         ensures { result ≡ slice_index_or (held self.now).blocks block first_record }
     {
-        if (block as usize) < self.blocks.len() {
-            return self.blocks[block as usize];
-        }
-        BlockRecord::FIRST
+        self.blocks
+            .get(block as usize)
+            .copied()
+            .unwrap_or(BlockRecord::FIRST)
     }
 
     fn concerned_block(&self, concerned: Option<u32>) -> BlockRecord
         ensures { result ≡ record_in concerned (held self.now).blocks }
     {
+        // and_then, copied and unwrap_or prove too, but cost seven instructions more a cycle
         match concerned {
             Some(block) => self.block(block),
             None => BlockRecord::FIRST,
@@ -115,21 +114,15 @@ impl BusReader<'_> {
     }
 }
 
-fn forget_all(blocks: &mut [BlockRecord])
-    ensures { blocks.new ≡ replicate (length blocks.old) first_record }
-{
-    for block in blocks.iter_mut() {
-        *block = BlockRecord::FIRST;
-    }
-}
-
 // The record of the block concerned is lent to be changed, if the block is in the part and has one.
 fn change_block(blocks: &mut [BlockRecord], bus: &BusState, act: Act, concerned: Option<u32>)
     ensures { blocks.new ≡ changed_at (blocks_in bus.now.part) concerned (changed bus.now act) blocks.old }
 {
-    if let Some(block) = concerned {
-        if block < u32::from(bus.blocks()) && (block as usize) < blocks.len() {
-            bus.change(act, &mut blocks[block as usize]);
-        }
+    if let Some(block) = concerned
+        && block < u32::from(bus.blocks())
+        && (block as usize) < blocks.len()
+    {
+        // an index: get_mut does not say what the slice ends as
+        bus.change(act, &mut blocks[block as usize]);
     }
 }

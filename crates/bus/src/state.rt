@@ -1,6 +1,7 @@
 // Where the bus stands between two cycles: all that the reader holds but the block records.
 ghost use Rattle.std.specs.Prelude.{◌≡◌};
-ghost use Rattle.bus.specs.States.{plus, nothing_given, column_skipped, quiet, idle, under_way, blocks_in, allowed_in};
+ghost use Rattle.bus.specs.States.{plus, nothing_given, column_skipped, quiet, under_way, blocks_in, allowed_in};
+ghost use Rattle.bus.specs.Bus.{work_done};
 
 use flash::address::{Column, Row};
 use flash::part::Part;
@@ -15,6 +16,7 @@ pub enum Setup {
 }
 
 /// Up to five bytes in the order in which they came; a place not yet given holds 0.
+// A count beside the bytes, and no ArrayVec: where the bus stands is copied, and that is not Copy.
 #[derive(Clone, Copy)]
 pub struct Given {
     pub count: u8,
@@ -57,35 +59,23 @@ pub enum Phase {
     },
 }
 
-/// What the chip is at work on. A chip that is busy takes only 70h and FFh.
-#[derive(Clone, Copy)]
-pub enum Busy {
-    Nothing,
-    Reset,
-    Read {
-        row: Row,
-        column: Column,
-        copy: bool,
-    },
-    CachePage,
-    Program {
-        block: u32,
-    },
-    Erase {
-        block: u32,
-    },
-}
-
-/// The page that was read, and the column of the byte that comes next. The copy flag is up from a
+/// A page that is read, and the column of the byte that comes next. The copy flag is up from a
 /// copy read until a byte is taken.
 #[derive(Clone, Copy)]
-pub enum Register {
-    Empty,
-    Full {
-        row: Row,
-        column: Column,
-        copy: bool,
-    },
+pub struct PageRead {
+    pub row: Row,
+    pub column: Column,
+    pub copy: bool,
+}
+
+/// What the chip is at work on. A chip at work is busy, and takes only 70h and FFh.
+#[derive(Clone, Copy)]
+pub enum Work {
+    Reset,
+    Read(PageRead),
+    CachePage,
+    Program { block: u32 },
+    Erase { block: u32 },
 }
 
 /// A chain is a run of cache programs of one block: open from the first 15h until a program ends it.
@@ -93,8 +83,8 @@ pub enum Register {
 pub struct BusState {
     pub part: Option<Part>,
     pub phase: Phase,
-    pub busy: Busy,
-    pub register: Register,
+    pub busy: Option<Work>,
+    pub register: Option<PageRead>,
     pub chain: Option<u32>,
     pub breaches: u16,
 }
@@ -116,7 +106,7 @@ impl Given {
     {
         if self.count < 5 {
             let mut bytes = self.bytes;
-            bytes[self.count as usize] = byte;
+            bytes[usize::from(self.count)] = byte;
             Given {
                 count: self.count + 1,
                 bytes,
@@ -132,21 +122,7 @@ impl Phase {
     pub(crate) fn is_quiet(self) -> bool
         ensures { result ≡ quiet self }
     {
-        match self {
-            Phase::Quiet | Phase::Status | Phase::Output => true,
-            _ => false,
-        }
-    }
-}
-
-impl Busy {
-    pub(crate) fn is_nothing(self) -> bool
-        ensures { result ≡ idle self }
-    {
-        match self {
-            Busy::Nothing => true,
-            _ => false,
-        }
+        matches!(self, Phase::Quiet | Phase::Status | Phase::Output)
     }
 }
 
@@ -155,39 +131,40 @@ impl BusState {
     pub const FIRST: BusState = BusState {
         part: None,
         phase: Phase::Quiet,
-        busy: Busy::Nothing,
-        register: Register::Empty,
+        busy: None,
+        register: None,
         chain: None,
         breaches: 0,
     };
+
+    /// The block of a program or erase that is busy.
+    pub(crate) fn work_block(&self) -> Option<u32>
+        ensures { result ≡ work_done self.now.busy }
+    {
+        match self.busy {
+            Some(Work::Program { block } | Work::Erase { block }) => Some(block),
+            _ => None,
+        }
+    }
 
     /// The block of a program or erase that is busy, or else of an open chain.
     pub fn under_way(&self) -> Option<u32>
         ensures { result ≡ under_way self.now }
     {
-        match self.busy {
-            Busy::Program { block } | Busy::Erase { block } => Some(block),
-            _ => self.chain,
-        }
+        self.work_block().or(self.chain)
     }
 
     /// How many blocks the part has; an unknown one has none.
     pub fn blocks(&self) -> u16
         ensures { result ≡ blocks_in self.now.part }
     {
-        match self.part {
-            Some(part) => part.blocks(),
-            None => 0,
-        }
+        self.part.map_or(0, |part| part.blocks())
     }
 
     /// How many programs of a page the part allows; an unknown one allows none.
     pub fn programs_allowed(&self) -> u8
         ensures { result ≡ allowed_in self.now.part }
     {
-        match self.part {
-            Some(part) => part.programs_allowed(),
-            None => 0,
-        }
+        self.part.map_or(0, |part| part.programs_allowed())
     }
 }

@@ -1,11 +1,12 @@
--- The line of a cycle reads back as the cycle.
-use Rattle.std.proofs.Common.{◌≡◌, ℕ, ◌+◌, ◌*◌, ◌/◌, ◌%◌, ◌<◌, false, eqb, List, [], ◌∷◌, ◌++◌, Some, ap, ◌∙◌, arith}
+-- The line of a cycle reads back as the cycle, and its kind digit is text.
+use Rattle.std.proofs.Common.{◌≡◌, ℕ, ◌+◌, ◌*◌, ◌/◌, ◌%◌, ◌<◌, false, eqb, List, [], ◌∷◌, ◌++◌, Some, encode_utf8, refl, ap, ◌∙◌, arith}
 use Rattle.std.proofs.lemmas.Bool.Decides.{nat_tests}
 use Rattle.flash.specs.declared.cycle.Cycle.{Cycle}
 use Rattle.flash.specs.declared.cycle.Kind.{Kind}
 use Rattle.flash.specs.declared.cycle.Kind.TheVariants.{Command, Address, DataIn, DataOut}
+use Rattle.bus_log.specs.Hexes.{hex_digit}
 use Rattle.bus_log.specs.Lines.{hex_of}
-use Rattle.bus_log.specs.Logs.{reads, next_line, digit_of, hex_digit, line_for, ReadsBack}
+use Rattle.bus_log.specs.Logs.{reads, next_line, digit_of, line_for, ReadsBack}
 use Rattle.bus_log.specs.declared.line.Scan.TheVariants as scan
 
 hex_back : (k : ℕ) → k < 16 → hex_of (hex_digit k) ≡ Some k
@@ -26,3 +27,11 @@ pub reads_back : (c : Cycle) → c.byte < 256 → ReadsBack c (line_for c)
 reads_back c h n cs =
     digits_back c.kind (c.byte / 16) (c.byte % 16) (omega arith) (omega arith) n cs
     ∙ ap (λ b. next_line n (cs ++ record { kind = c.kind; byte = b } ∷ [])) (omega arith)
+
+-- a kind digit as a character is one byte
+pub digit_text : (k : Kind) → encode_utf8 (digit_of k) ≡ digit_of k ∷ []
+unfolding lib.Utf8.encode
+digit_text Command = refl
+digit_text Address = refl
+digit_text DataIn = refl
+digit_text DataOut = refl

@@ -1,7 +1,7 @@
 -- Readings put together.
 use Rattle.std.proofs.Common.{◌≡◌, ℕ, zero, suc, ◌+◌, ◌<◌, List, [], ◌∷◌, ◌++◌, length, get_or, take, drop, Err, sym, refl, ap, ◌∙◌, arith}
 use mathlib.Core.List.{foldl-append}
-use Rattle.std.proofs.lemmas.List.{take_more, take-append-drop, drop_more}
+use Rattle.std.proofs.lemmas.List.{take-append-drop, drop_more}
 use Rattle.bus_log.specs.Logs.{Reading, read_byte, reads, stopped_at, Went}
 use Rattle.bus_log.specs.declared.log_reader.LogError.{LogError}
 use Rattle.bus_log.specs.declared.log_reader.LogError.TheVariants.{NotACycle, Memory}
@@ -12,12 +12,6 @@ stays_stopped s [] = refl
 stays_stopped s (b ∷ bs) = stays_stopped s bs
 
 module _ (s t u : Reading) (bs : List ℕ) (i : ℕ) (so : reads s (take i bs) ≡ t) (h : i < length bs) where
-  -- one byte more
-  pub reads_more : reads t (get_or bs i 0 ∷ []) ≡ u → reads s (take (i + 1) bs) ≡ u
-  reads_more e =
-      ap (reads s) (take_more bs i 0 h)
-      ∙ (foldl-append read_byte s (take i bs) (get_or bs i 0 ∷ []) ∙ (ap (λ x. reads x (get_or bs i 0 ∷ [])) so ∙ e))
-
   -- one byte more stops the reading, whatever follows
   pub reads_stop : reads t (get_or bs i 0 ∷ []) ≡ stopped_at u → reads s bs ≡ stopped_at u
   reads_stop e =

@@ -1,2 +1,4 @@
+pub mod Errors
+pub mod Hexes
 pub mod Lines
 pub mod Logs

@@ -1,11 +1,11 @@
 -- One line of a log: the kind digit and two hexadecimal digits, spaces around them aside.
-use Rattle.std.specs.Prelude.{ℕ, ◌+◌, ◌-◌, ◌*◌, ◌%◌, Bool, cond, ◌&&◌, ◌||◌, Some, None, Option, ◌==◌, nat_le}
+use Rattle.std.specs.Prelude.{ℕ, ◌+◌, ◌-◌, ◌*◌, ◌%◌, Bool, cond, ◌&&◌, ◌||◌, Some, None, Option, Ok, Err, Result, ◌==◌, nat_le}
+use Rattle.flash.specs.declared.cycle.Cycle.{Cycle}
 use Rattle.flash.specs.declared.cycle.Kind.{Kind}
 use Rattle.flash.specs.declared.cycle.Kind.TheVariants.{Command, Address, DataIn, DataOut}
 use Rattle.bus_log.specs.declared.line.Scan.{Scan}
 use Rattle.bus_log.specs.declared.line.Scan.TheVariants as scan
-use Rattle.bus_log.specs.declared.line.Line.{Line}
-use Rattle.bus_log.specs.declared.line.Line.TheVariants as line
+use Rattle.bus_log.specs.declared.line.NotACycle.{NotACycle}
 
 -- a space, a tab or a carriage return
 abbrev pub is_space : ℕ → Bool
@@ -31,6 +31,10 @@ hex_of b =
     (cond (between 97 102 b) (Some (b - 97 + 10))
     None))
 
+-- the byte of its high and its low half
+abbrev pub joined : ℕ → ℕ → ℕ
+joined h l = (h % 16) * 16 + l % 16
+
 abbrev pub kind_digit : Option Kind → Scan
 kind_digit None = scan.Bad
 kind_digit (Some k) = scan.Kind k
@@ -44,7 +48,7 @@ first_digit k (Some h) = scan.High k h
 
 abbrev pub second_digit : Kind → ℕ → Option ℕ → Scan
 second_digit k h None = scan.Bad
-second_digit k h (Some l) = scan.Whole (record { kind = k; byte = (h % 16) * 16 + l % 16 })
+second_digit k h (Some l) = scan.Whole (record { kind = k; byte = joined h l })
 
 abbrev pub feed : Scan → ℕ → Scan
 feed scan.Blank b = begin b
@@ -54,10 +58,11 @@ feed (scan.High k h) b = second_digit k h (hex_of b)
 feed (scan.Whole c) b = cond (is_space b) (scan.Whole c) scan.Bad
 feed scan.Bad b = scan.Bad
 
-abbrev pub finish : Scan → Line
-finish scan.Blank = line.Skip
-finish scan.Comment = line.Skip
-finish (scan.Kind k) = line.Bad
-finish (scan.High k h) = line.Bad
-finish (scan.Whole c) = line.Cycle c
-finish scan.Bad = line.Bad
+-- the cycle of a whole line, and none of a blank one or a comment
+abbrev pub finish : Scan → Result (Option Cycle) NotACycle
+finish scan.Blank = Ok None
+finish scan.Comment = Ok None
+finish (scan.Kind k) = Err (record {})
+finish (scan.High k h) = Err (record {})
+finish (scan.Whole c) = Ok (Some c)
+finish scan.Bad = Err (record {})

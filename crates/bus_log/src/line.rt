@@ -1,9 +1,13 @@
-// One line of a log, read a byte at a time.
-ghost use Rattle.std.specs.Prelude.{◌≡◌, ◌<◌};
-ghost use Rattle.bus_log.specs.Logs.{digit_of, hex_digit, line_for, ReadsBack};
+// The lines of a log: read a byte at a time, and written.
+ghost use Rattle.std.specs.Prelude.{◌≡◌, ◌<◌, codes, Some};
+ghost use Rattle.bus_log.specs.Hexes.{hex_digit};
+ghost use Rattle.bus_log.specs.Logs.{digit_of, line_for, log_text, ReadsBack};
 ghost use Rattle.bus_log.specs.Lines.{is_space, kind_of, hex_of, begin, first_digit, second_digit, feed, finish};
 
+use crate::hex::{hex_of, joined};
 use flash::cycle::{Cycle, Kind};
+use std::error::Error;
+use std::fmt;
 
 /// What has been read of a line. Spaces, tabs and carriage returns around it do not count.
 #[derive(Clone, Copy)]
@@ -16,25 +20,31 @@ pub enum Scan {
     High { kind: Kind, high: u8 },
     /// All three, with no space among them.
     Whole { cycle: Cycle },
-    /// No cycle, whatever follows.
+    /// No cycle, whatever follows: a state and no `Err`, since a line is read to its end.
     Bad,
 }
 
-/// What a whole line is.
-#[derive(Clone, Copy)]
-pub enum Line {
-    /// Blank, or a comment.
-    Skip,
-    Cycle { cycle: Cycle },
-    Bad,
+/// The line is neither a cycle nor blank nor a comment.
+#[derive(Clone, Copy, Debug)]
+pub struct NotACycle;
+
+impl fmt::Display for NotACycle {
+    ghost output = { λ _. Some (codes "not a cycle") };
+
+    fn fmt<W: fmt::Write>(&self, f: &mut fmt::Formatter<W>) -> fmt::Result {
+        write!(f, "not a cycle")
+    }
 }
+
+impl Error for NotACycle {}
 
 fn is_space(byte: u8) -> bool
     ensures { result ≡ is_space byte }
 {
-    byte == b' ' || byte == b'\t' || byte == b'\r'
+    matches!(byte, b' ' | b'\t' | b'\r')
 }
 
+// No `TryFrom`, nor `From` for the way back: byte and kind are both types from elsewhere.
 fn kind_of(byte: u8) -> Option<Kind>
     ensures { result ≡ kind_of byte }
 {
@@ -43,18 +53,6 @@ fn kind_of(byte: u8) -> Option<Kind>
         b'1' => Some(Kind::Address),
         b'2' => Some(Kind::DataIn),
         b'3' => Some(Kind::DataOut),
-        _ => None,
-    }
-}
-
-// The value of a hexadecimal digit, in either case.
-fn hex_of(byte: u8) -> Option<u8>
-    ensures { result ≡ hex_of byte }
-{
-    match byte {
-        b'0'..=b'9' => Some(byte - b'0'),
-        b'A'..=b'F' => Some(byte - b'A' + 10),
-        b'a'..=b'f' => Some(byte - b'a' + 10),
         _ => None,
     }
 }
@@ -69,33 +67,27 @@ impl Scan {
         if byte == b'#' {
             return Scan::Comment;
         }
-        match kind_of(byte) {
-            Some(kind) => Scan::Kind { kind },
-            None => Scan::Bad,
-        }
+        kind_of(byte).map_or(Scan::Bad, |kind| Scan::Kind { kind })
     }
 
     fn first_digit(kind: Kind, byte: u8) -> Scan
         ensures { result ≡ first_digit kind (hex_of byte) }
     {
-        match hex_of(byte) {
-            Some(high) => Scan::High { kind, high },
-            None => Scan::Bad,
-        }
+        hex_of(byte).map_or(Scan::Bad, |high| Scan::High { kind, high })
     }
 
     fn second_digit(kind: Kind, high: u8, byte: u8) -> Scan
         ensures { result ≡ second_digit kind high (hex_of byte) }
     {
-        match hex_of(byte) {
-            Some(low) => Scan::Whole {
+        hex_of(byte).map_or(
+            Scan::Bad,
+            |low| Scan::Whole {
                 cycle: Cycle {
                     kind,
-                    byte: (high % 16) * 16 + low % 16,
+                    byte: joined(high, low),
                 },
             },
-            None => Scan::Bad,
-        }
+        )
     }
 
     /// One byte more of the line.
@@ -112,14 +104,14 @@ impl Scan {
         }
     }
 
-    /// The line has ended.
-    pub fn finish(self) -> Line
+    /// The line has ended; a blank line and a comment have no cycle.
+    pub fn finish(self) -> Result<Option<Cycle>, NotACycle>
         ensures { result ≡ finish self }
     {
         match self {
-            Scan::Blank | Scan::Comment => Line::Skip,
-            Scan::Whole { cycle } => Line::Cycle { cycle },
-            Scan::Kind { .. } | Scan::High { .. } | Scan::Bad => Line::Bad,
+            Scan::Blank | Scan::Comment => Ok(None),
+            Scan::Whole { cycle } => Ok(Some(cycle)),
+            Scan::Kind { .. } | Scan::High { .. } | Scan::Bad => Err(NotACycle),
         }
     }
 }
@@ -128,11 +120,7 @@ fn hex_digit(value: u8) -> u8
     requires { value < 16 }
     ensures { result ≡ hex_digit value }
 {
-    if value < 10 {
-        b'0' + value
-    } else {
-        b'A' - 10 + value
-    }
+    b"0123456789ABCDEF"[usize::from(value)]
 }
 
 fn kind_digit(kind: Kind) -> u8
@@ -157,4 +145,21 @@ pub fn line_for(cycle: Cycle) -> [u8; 4]
         hex_digit(cycle.byte % 16),
         b'\n',
     ]
+}
+
+/// Cycles as a log: each as its line.
+#[derive(Clone, Copy)]
+pub struct Log<'a>(pub &'a [Cycle]);
+
+impl fmt::Display for Log<'_> {
+    ghost output = { λ l. Some (log_text l.0.now) };
+
+    fn fmt<W: fmt::Write>(&self, f: &mut fmt::Formatter<W>) -> fmt::Result {
+        for cycle in self.0 {
+            let kind = char::from(kind_digit(cycle.kind));
+            let byte = cycle.byte;
+            writeln!(f, "{kind}{byte:02X}")?;
+        }
+        Ok(())
+    }
 }

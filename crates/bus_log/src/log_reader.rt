@@ -1,19 +1,35 @@
 // A log, read in pieces of any length.
-ghost use Rattle.std.specs.Prelude.{◌≡◌, [], ◌∷◌};
+ghost use Rattle.std.specs.Prelude.{◌≡◌, [], ◌∷◌, Some};
+ghost use Rattle.bus_log.specs.Errors.{error_text};
 ghost use Rattle.bus_log.specs.Logs.{standing, begun, Went};
 ghost use Rattle.bus_log.specs.declared.log_reader.LogError.TheVariants.{Memory};
 
-use crate::line::{Line, Scan};
+use crate::line::{NotACycle, Scan};
 use flash::cycle::Cycle;
 use std::alloc::{AllocError, AllocFailed};
+use std::error::Error;
+use std::fmt;
 
 /// Why a log is not read on.
-#[derive(Clone, Copy)]
+#[derive(Clone, Copy, Debug)]
 pub enum LogError {
     /// The line of this number, counted from 1, is neither a cycle nor blank nor a comment.
     NotACycle { line: u64 },
     Memory,
 }
+
+impl fmt::Display for LogError {
+    ghost output = { λ e. Some (error_text e) };
+
+    fn fmt<W: fmt::Write>(&self, f: &mut fmt::Formatter<W>) -> fmt::Result {
+        match self {
+            LogError::NotACycle { line } => write!(f, "line {line}: {NotACycle}"),
+            LogError::Memory => write!(f, "out of memory"),
+        }
+    }
+}
+
+impl Error for LogError {}
 
 impl<T: Drop> From<AllocFailed<T>> for LogError {
     ghost from_gives = { λ _ e. e ≡ Memory };
@@ -47,10 +63,13 @@ impl LogReader {
             self.scan = self.scan.feed(byte);
             return Ok(());
         }
-        match self.scan.finish() {
-            Line::Skip => {}
-            Line::Cycle { cycle } => cycles.push(cycle)?,
-            Line::Bad => return Err(LogError::NotACycle { line: self.line }),
+        let line = self.line;
+        let ended = self
+            .scan
+            .finish()
+            .map_err(|_| LogError::NotACycle { line })?;
+        if let Some(cycle) = ended {
+            cycles.push(cycle)?;
         }
         self.scan = Scan::Blank;
         self.line = self.line.saturating_add(1);

@@ -1,5 +1,5 @@
 -- An address on the bus, byte by byte.
-use Rattle.std.proofs.Common.{◌≡◌, ℕ, ◌*◌, ◌/◌, ◌%◌, ◌<◌, ◌≤◌, true, false, cond, ltb, List, [], ◌∷◌, map, Some, refl, ap, ◌∙◌, arith}
+use Rattle.std.proofs.Common.{◌≡◌, ℕ, ◌*◌, ◌/◌, ◌%◌, ◌<◌, ◌≤◌, true, false, cond, ltb, List, [], ◌∷◌, map, Some, refl, ap, ◌∙◌, arith, None, Option}
 use Rattle.std.proofs.lemmas.Bool.{lt-ltb}
 use Rattle.flash.specs.declared.address.Column.{Column}
 use Rattle.flash.specs.declared.address.Row.{Row}
@@ -15,8 +15,7 @@ use Rattle.bus.specs.declared.state.Given.{Given}
 use Rattle.bus.specs.declared.state.Setup.{Setup}
 use Rattle.bus.specs.declared.state.Setup.TheVariants as setup
 use Rattle.bus.specs.declared.state.Phase.TheVariants as phase
-use Rattle.bus.specs.declared.state.Register.{Register}
-use Rattle.bus.specs.declared.state.Register.TheVariants as register
+use Rattle.bus.specs.declared.state.PageRead.{PageRead}
 use Rattle.commands.specs.Sequences.{address_byte, row_bytes, addressed}
 use Rattle.calls.specs.Afters.{move_to}
 use Rattle.calls.proofs.Goes.{Runs, runs_then, runs_to, runs_plain}
@@ -36,11 +35,11 @@ column_of_two : (c : Column) → c.number < 65536 → column_of (c.number % 256 
 column_of_two c h = ap (λ n. record { number = n }) (omega arith)
 
 module _ (r : Reader) (h : List ℕ) (m : r.bus.breaches ≤ 65535) (p : Part) (known : r.bus.part ≡ Some p) where
-  byte_more : (s : Setup) (g : Given) (x : Register) (b : ℕ) → ltb (plus g b).count (address_cycles p) ≡ true
+  byte_more : (s : Setup) (g : Given) (x : Option PageRead) (b : ℕ) → ltb (plus g b).count (address_cycles p) ≡ true
       → Runs (move_to (phase.Addressing s g) x r) h (address_byte b ∷ []) (move_to (phase.Addressing s (plus g b)) x r) h []
   byte_more s g x b e = runs_plain (move_to (phase.Addressing s g) x r) h (address_byte b) (act.Prepare (phase.Addressing s (plus g b)) x) refl m (simp (known, e))
 
-  byte_last : (s : Setup) (g : Given) (x : Register) (b : ℕ) (w : Row) → ltb (plus g b).count (address_cycles p) ≡ false → row_in (plus g b) ≡ w
+  byte_last : (s : Setup) (g : Given) (x : Option PageRead) (b : ℕ) (w : Row) → ltb (plus g b).count (address_cycles p) ≡ false → row_in (plus g b) ≡ w
       → block_of w < blocks_of p → in_chain r.bus.chain w ≡ true
       → Runs (move_to (phase.Addressing s g) x r) h (address_byte b ∷ []) (move_to (phase.Addressed s (column_in (plus g b)) w) x r) h []
   byte_last s g x b w e i l q =
@@ -50,7 +49,7 @@ module _ (r : Reader) (h : List ℕ) (m : r.bus.breaches ≤ 65535) (p : Part) (
       (when (nameable (move_to (phase.Addressing s g) x r).bus v) (act.Prepare (phase.Addressed s (column_in (plus g b)) v) x))) i
       ∙ simp (known, e, t, q))
 
-module _ (r : Reader) (h : List ℕ) (m : r.bus.breaches ≤ 65535) (s : Setup) (x : Register) (w : Row) (q : in_chain r.bus.chain w ≡ true) where
+module _ (r : Reader) (h : List ℕ) (m : r.bus.breaches ≤ 65535) (s : Setup) (x : Option PageRead) (w : Row) (q : in_chain r.bus.chain w ≡ true) where
   pub row_runs : (p : Part) (low high : ℕ) → r.bus.part ≡ Some p → w.number < 64 * blocks_of p
       → Runs (move_to (phase.Addressing s (column_given low high)) x r) h (map address_byte (row_bytes (Some p) w)) (move_to (phase.Addressed s (column_of (low ∷ high ∷ [])) w) x r) h []
   row_runs OneGbit low high known l =
@@ -67,16 +66,16 @@ module _ (r : Reader) (h : List ℕ) (m : r.bus.breaches ≤ 65535) (p : Part) (
   some_cycles : (n : ℕ) → n < 4 → ltb n (address_cycles p) ≡ true
   some_cycles n i = grind arith
 
-  row_after : (s : Setup) (x : Register) → Runs (move_to (phase.Addressing s (column_given (c.number % 256) (c.number / 256 % 256))) x r) h (map address_byte (row_bytes (Some p) w)) (move_to (phase.Addressed s c w) x r) h []
+  row_after : (s : Setup) (x : Option PageRead) → Runs (move_to (phase.Addressing s (column_given (c.number % 256) (c.number / 256 % 256))) x r) h (map address_byte (row_bytes (Some p) w)) (move_to (phase.Addressed s c w) x r) h []
   row_after s x = runs_to (ap (λ d. move_to (phase.Addressed s d w) x r) (column_of_two c k)) (row_runs r h m s x w q p (c.number % 256) (c.number / 256 % 256) known l)
 
-  pub address_runs : (s : Setup) (x : Register) → Runs (move_to (phase.Addressing s nothing_given) x r) h (addressed (Some p) w c) (move_to (phase.Addressed s c w) x r) h []
+  pub address_runs : (s : Setup) (x : Option PageRead) → Runs (move_to (phase.Addressing s nothing_given) x r) h (addressed (Some p) w c) (move_to (phase.Addressed s c w) x r) h []
   address_runs s x =
       runs_then (byte_more r h m p known s nothing_given x (c.number % 256) (some_cycles 1 (omega arith)))
       (runs_then (byte_more r h m p known s (plus nothing_given (c.number % 256)) x (c.number / 256 % 256) (some_cycles 2 (omega arith))) (row_after s x))
 
   -- after 00h the first byte also empties the register
-  pub address_read : (x : Register) → Runs (move_to phase.ReadSetup x r) h (addressed (Some p) w c) (move_to (phase.Addressed setup.Read c w) register.Empty r) h []
+  pub address_read : (x : Option PageRead) → Runs (move_to phase.ReadSetup x r) h (addressed (Some p) w c) (move_to (phase.Addressed setup.Read c w) None r) h []
   address_read x =
-      runs_then (runs_plain (move_to phase.ReadSetup x r) h (address_byte (c.number % 256)) (act.Prepare (phase.Addressing setup.Read (plus nothing_given (c.number % 256))) register.Empty) refl m refl)
-      (runs_then (byte_more r h m p known setup.Read (plus nothing_given (c.number % 256)) register.Empty (c.number / 256 % 256) (some_cycles 2 (omega arith))) (row_after setup.Read register.Empty))
+      runs_then (runs_plain (move_to phase.ReadSetup x r) h (address_byte (c.number % 256)) (act.Prepare (phase.Addressing setup.Read (plus nothing_given (c.number % 256))) None) refl m refl)
+      (runs_then (byte_more r h m p known setup.Read (plus nothing_given (c.number % 256)) None (c.number / 256 % 256) (some_cycles 2 (omega arith))) (row_after setup.Read None))

@@ -13,7 +13,7 @@ use Rattle.flash.specs.Addresses.{row_at}
 use Rattle.bus.specs.declared.act.Confirm.{Confirm}
 use Rattle.bus.specs.declared.act.Confirm.TheVariants as confirm
 use Rattle.commands.specs.Polls.{polled, taken, left, poll_cycles}
-use Rattle.commands.specs.Sequences.{row_bytes, addressed, first_column, reset_cycles, identity_cycles, erase_cycles, program_cycles, copy_cycles, open_cycles, out_cycles, read_cycles, copy_read_cycles}
+use Rattle.commands.specs.Sequences.{row_bytes, first_column, reset_cycles, identity_cycles, erase_cycles, program_cycles, copy_cycles, open_cycles, out_cycles, read_cycles, copy_read_cycles}
 use Rattle.calls.specs.Table.{mark_column, block_row, chain_page, once_ready, row_count, address_count, poll_count, open_count, WithinMost}
 use Rattle.calls.specs.declared.call.Call.{Call}
 use Rattle.calls.specs.declared.call.Call.TheVariants as call
@@ -35,9 +35,6 @@ row_length (Some TwoGbit) w = refl
 
 poll_length : (n : ℕ) (rs : List ℕ) → length (poll_cycles n rs) ≤ poll_count n
 poll_length n rs = simp length-map (omega (arith, taken_most n rs))
-
-address_length : (o : Option Part) (w : Row) (c : Column) → length (addressed o w c) ≡ address_count o
-address_length o w c = simp length-map (omega (arith, row_length o w))
 
 erase_length : (o : Option Part) (w : Row) → length (erase_cycles o w) ≡ 1 + row_count o + 1
 erase_length o w = simp (length-append, length-map) (omega (arith, row_length o w))

@@ -1,5 +1,5 @@
 -- A poll on the bus: it ends whatever is busy.
-use Rattle.std.proofs.Common.{◌≡◌, ℕ, zero, suc, ◌≤◌, Bool, true, false, cond, List, [], ◌∷◌, map, Some, refl, subst, arith}
+use Rattle.std.proofs.Common.{◌≡◌, ℕ, zero, suc, ◌≤◌, Bool, true, false, cond, List, [], ◌∷◌, map, Some, refl, subst, arith, None}
 use Rattle.flash.specs.declared.address.Row.{Row}
 use Rattle.flash.specs.declared.opcode.Opcode.TheVariants as op
 use Rattle.bus.specs.Acts.{in_chain}
@@ -8,7 +8,6 @@ use Rattle.bus.specs.States.{quiet, closed}
 use Rattle.bus.specs.declared.act.Act.TheVariants as act
 use Rattle.bus.specs.declared.state.Phase.TheVariants as phase
 use Rattle.flash.specs.Statuses.{ready}
-use Rattle.bus.specs.declared.state.Busy.TheVariants as busy
 use Rattle.port.specs.Meanings.{gave}
 use Rattle.commands.specs.Polls.{command, polled, taken, poll_cycles}
 use Rattle.calls.specs.Afters.{asked, after_poll}
@@ -48,7 +47,7 @@ ends_ready (suc n) (s ∷ rs) t e = ready_by n s t rs (ready s) refl (ends_ready
 
 -- after it nothing is busy, and the reader is otherwise as it was
 pub record Readied (r s : Reader) : Type 0 where
-  pub idle : s.bus.busy ≡ busy.Nothing
+  pub idle : s.bus.busy ≡ None
   pub quiet : quiet s.bus.phase ≡ true
   pub part : s.bus.part ≡ r.bus.part
   pub breaches : s.bus.breaches ≤ 65535

@@ -10,21 +10,19 @@ use Rattle.bus.specs.Acts.{in_chain}
 use Rattle.bus.specs.Bus.{Reader}
 use Rattle.bus.specs.States.{idle, copy_up}
 use Rattle.bus.specs.declared.act.Act.TheVariants as act
-use Rattle.bus.specs.declared.state.Register.TheVariants as register
 use Rattle.flash.specs.Addresses.{row_at}
 use Rattle.flash.specs.Statuses.{ready}
 use Rattle.flash.specs.declared.page.Page.{Page}
 use Rattle.bus.specs.States.{blocks_in}
 use Rattle.bus.specs.declared.act.Confirm.{Confirm}
 use Rattle.bus.specs.declared.act.Confirm.TheVariants as confirm
-use Rattle.bus.specs.declared.state.Busy.{Busy}
-use Rattle.bus.specs.declared.state.Busy.TheVariants as busy
+use Rattle.bus.specs.declared.state.Work.{Work}
 use Rattle.events.specs.Events.{place}
 use Rattle.port.specs.Meanings.{gave}
 use Rattle.commands.specs.Polls.{command, polled, left, first_of, poll_cycles}
 use Rattle.commands.specs.Sequences.{first_column, out_cycles, read_cycles, program_cycles, copy_cycles, identity_cycles, reset_cycles}
 use Rattle.calls.specs.Table.{mark_column, block_row, chain_page, once_ready, cycles}
-use Rattle.calls.specs.Afters.{after_poll, after_reset, after_open, after_bytes, after_program, after_identity, if_ready, after}
+use Rattle.calls.specs.Afters.{after_poll, after_reset, after_open, after_bytes, after_program, after_identity, if_ready, after, page_read}
 use Rattle.calls.specs.Deeds.{Deed, reset, identity, read, out, erase, program}
 use Rattle.calls.specs.Told.{place_in, deeds_if_ready, call_deeds, InPart, Span, Fits, Rests, Chains, Begins}
 use Rattle.calls.specs.declared.call.Call.{Call}
@@ -43,7 +41,7 @@ place_of o g c i =
     ap (λ b. record { block = b; page = (64 * g.block + g.page) % 64; column = c.number }) (let e : (64 * g.block + g.page) / 64 ≡ g.block = omega (arith, i.page) in e)
     ∙ ap (λ n. record { block = g.block; page = n; column = c.number }) (let e : (64 * g.block + g.page) % 64 ≡ g.page = omega (arith, i.page) in e)
 
-is_idle : (b : Busy) → idle b ≡ true → b ≡ busy.Nothing
+is_idle : (b : Option Work) → idle b ≡ true → b ≡ None
 is_idle b e = grind (arith, e)
 
 calm : (r : Reader) (p : Part) → r.bus.part ≡ Some p → r.bus.breaches ≤ 65535 → Rests r → Calm r p
@@ -76,7 +74,7 @@ first_length (suc n) (b ∷ rs) = ap suc (first_length n rs)
 
 -- the register after a page was opened and the chip became ready
 opened_register : (r : Reader) (w : Row) (c : Column) (copy : Bool) (s : ℕ) → ready s ≡ true
-    → (after_poll (Some s) (after_open w c copy r)).bus.register ≡ register.Full w c copy
+    → (after_poll (Some s) (after_open w c copy r)).bus.register ≡ Some (page_read w c copy)
 opened_register r w c copy s e = simp e
 
 module _ (r : Reader) (p : Part) (known : r.bus.part ≡ Some p) (m : r.bus.breaches ≤ 65535) (rest : Rests r) where

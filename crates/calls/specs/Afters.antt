@@ -13,16 +13,19 @@ use Rattle.bus.specs.declared.act.Confirm.{Confirm}
 use Rattle.bus.specs.declared.act.Confirm.TheVariants as confirm
 use Rattle.bus.specs.declared.state.Phase.{Phase}
 use Rattle.bus.specs.declared.state.Phase.TheVariants as phase
-use Rattle.bus.specs.declared.state.Register.{Register}
-use Rattle.bus.specs.declared.state.Register.TheVariants as register
+use Rattle.bus.specs.declared.state.PageRead.{PageRead}
 use Rattle.commands.specs.Polls.{polled, left, first_of}
 use Rattle.commands.specs.Sequences.{first_column}
 use Rattle.calls.specs.Table.{mark_column, block_row, chain_page}
 use Rattle.calls.specs.declared.call.Call.{Call}
 use Rattle.calls.specs.declared.call.Call.TheVariants as call
 
+-- what a confirmed read, and then the register, holds: the page, the column, and whether it is to be copied
+abbrev pub page_read : Row → Column → Bool → PageRead
+page_read w c copy = record { row = w; column = c; copy = copy }
+
 -- the same reader at another phase and with another register
-abbrev pub move_to : Phase → Register → Reader → Reader
+abbrev pub move_to : Phase → Option PageRead → Reader → Reader
 move_to h g r = record { bus = at r.bus h r.bus.busy g r.bus.chain; blocks = r.blocks }
 
 -- 70h and status bytes: the ready one ends what is busy
@@ -38,13 +41,13 @@ after_reset r = done r act.Reset
 
 -- a confirm, with nothing half given before it and the register emptied
 abbrev pub after_erase : Row → Reader → Reader
-after_erase w r = done (move_to phase.Quiet register.Empty r) (act.Erase w)
+after_erase w r = done (move_to phase.Quiet None r) (act.Erase w)
 
 abbrev pub after_program : Row → Column → Confirm → Reader → Reader
-after_program w c f r = done (move_to phase.Quiet register.Empty r) (act.Program w c f)
+after_program w c f r = done (move_to phase.Quiet None r) (act.Program w c f)
 
 abbrev pub after_open : Row → Column → Bool → Reader → Reader
-after_open w c copy r = done (move_to phase.Quiet register.Empty r) (act.Read w c copy)
+after_open w c copy r = done (move_to phase.Quiet None r) (act.Read (page_read w c copy))
 
 -- bytes of a row from a column on: each that stands at a mark is noted
 abbrev pub noted : Option Part → Row → ℕ → List ℕ → List BlockRecord → List BlockRecord
@@ -54,12 +57,12 @@ noted o w c (b ∷ bs) ks =
 
 abbrev pub after_bytes : Row → Column → List ℕ → Reader → Reader
 after_bytes w c bs r = record {
-  bus = at r.bus phase.Output r.bus.busy (register.Full w (record { number = c.number + length bs }) false) r.bus.chain;
+  bus = at r.bus phase.Output r.bus.busy (Some (page_read w (record { number = c.number + length bs }) false)) r.bus.chain;
   blocks = noted r.bus.part w c.number bs r.blocks;
 }
 
 abbrev pub after_identity : List ℕ → Reader → Reader
-after_identity bs r = done (move_to phase.Quiet register.Empty r) (act.Identify bs)
+after_identity bs r = done (move_to phase.Quiet None r) (act.Identify bs)
 
 -- what follows a poll follows only a ready status
 abbrev pub if_ready : Option ℕ → (Reader → Reader) → Reader → Reader

@@ -4,9 +4,7 @@ use Rattle.flash.specs.Records.{first_record}
 use Rattle.flash.specs.declared.cycle.Cycle.{Cycle}
 use Rattle.flash.specs.declared.part.Part.{Part}
 use Rattle.bus.specs.declared.act.Confirm.{Confirm}
-use Rattle.bus.specs.declared.state.Busy.TheVariants as busy
 use Rattle.bus.specs.declared.state.Phase.TheVariants as phase
-use Rattle.bus.specs.declared.state.Register.TheVariants as register
 use Rattle.events.specs.Events.{Thing, Place, Telling, events}
 use Rattle.events.specs.Events as thing
 
@@ -39,7 +37,7 @@ deeds (x ∷ xs) = deed x ++ deeds xs
 abbrev pub at_rest : Option Part → Telling
 at_rest o = record {
   reader = record {
-    bus = record { part = o; phase = phase.Quiet; busy = busy.Nothing; register = register.Empty; chain = None; breaches = 0 };
+    bus = record { part = o; phase = phase.Quiet; busy = None; register = None; chain = None; breaches = 0 };
     blocks = replicate 2048 first_record;
   };
   hand = [];

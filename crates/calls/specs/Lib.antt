@@ -1,4 +1,5 @@
 pub mod Table
+pub mod Slips
 pub mod Deeds
 pub mod Afters
 pub mod Told

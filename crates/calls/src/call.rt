@@ -8,6 +8,8 @@ use flash::page::Page;
 use flash::part::Part;
 
 /// A call. A slip goes by its number; the bytes of a program go beside the call.
+// Page and column stand apart: look, erase and copy name a page alone, and a chain's page has its block from
+// the slip.
 #[derive(Clone, Copy)]
 pub enum Call {
     Identify,
@@ -62,17 +64,15 @@ pub enum Call {
 fn row_count(part: Option<Part>) -> usize
     ensures { result ≡ row_count part }
 {
-    match part {
-        Some(part) => part.address_cycles() as usize - 2,
-        None => 0,
-    }
+    part.map_or(0, |part| usize::from(part.address_cycles()) - 2)
 }
 
-// A command, an address, a second command, and a poll.
+// A command, an address, a second command, and a poll. Part and polls stand together, and make no struct:
+// they are fields of a session beside others, and a poll or a row alone needs one of them.
 fn open_count(part: Option<Part>, polls: u16) -> usize
     ensures { result ≡ open_count part polls }
 {
-    row_count(part) + polls as usize + 5
+    row_count(part) + usize::from(polls) + 5
 }
 
 impl Call {
@@ -80,7 +80,7 @@ impl Call {
         ensures { result ≡ min (most part polls self count) (2 ^ 64 - 1) }
     {
         let rows = row_count(part);
-        let poll = polls as usize + 1;
+        let poll = usize::from(polls) + 1;
         match self {
             Call::Identify => poll + 8,
             Call::Look(_) => open_count(part, polls) + 2,

@@ -19,8 +19,7 @@ use Rattle.bus.specs.declared.act.Confirm.TheVariants as confirm
 use Rattle.bus.specs.declared.state.BusState.{BusState}
 use Rattle.bus.specs.declared.state.Phase.{Phase}
 use Rattle.bus.specs.declared.state.Phase.TheVariants as phase
-use Rattle.bus.specs.declared.state.Register.{Register}
-use Rattle.bus.specs.declared.state.Register.TheVariants as register
+use Rattle.bus.specs.declared.state.PageRead.{PageRead}
 use Rattle.bus.specs.declared.state.Setup.TheVariants as setup
 use Rattle.events.specs.Events.{hand_after}
 use Rattle.chip.specs.Chips.{begins_program}
@@ -35,7 +34,7 @@ ends act.Reset = false
 ends (act.Prepare p g) = false
 ends (act.Status b) = false
 ends (act.Identify bs) = false
-ends (act.Read w c f) = true
+ends (act.Read x) = true
 ends (act.Data w c b) = false
 ends (act.Erase w) = true
 ends (act.Load w s c b) = true
@@ -48,7 +47,7 @@ outs act.Reset = false
 outs (act.Prepare p g) = false
 outs (act.Status b) = true
 outs (act.Identify bs) = true
-outs (act.Read w c f) = false
+outs (act.Read x) = false
 outs (act.Data w c b) = true
 outs (act.Erase w) = false
 outs (act.Load w s c b) = false
@@ -69,7 +68,7 @@ next_in (phase.Loading w s n) = n
 -- what holds of the act of each command, of a byte that is no command, of an address byte, of a byte in
 -- and of a byte out, holds of every act
 module _ (u : BusState) (P : Act → Type 0) where
-  command_ways : (o : Option Opcode) → ((o : Opcode) → P (commanded u o)) → P (when_idle u act.OutOfPlace) → P (command u o)
+  pub command_ways : (o : Option Opcode) → ((o : Opcode) → P (commanded u o)) → P (when_idle u act.OutOfPlace) → P (command u o)
   command_ways None known unknown = unknown
   command_ways (Some o) known unknown = known o
 
@@ -81,12 +80,12 @@ module _ (u : BusState) (P : Act → Type 0) where
   ways DataOut b commands unknown addresses ins outs = outs
 
 -- an act that prepares a phase: which one, with which register, after which
-pub record Prepared (u : BusState) (p : Phase) (g : Register) : Type 0 where
+pub record Prepared (u : BusState) (p : Phase) (g : Option PageRead) : Type 0 where
   pub before : loads u.phase ≡ false
   pub after : loads p ≡ false
   pub program : address_for p ≡ Some setup.Program → begins_program p ≡ false → address_for u.phase ≡ Some setup.Program
   pub copy : address_for p ≡ Some setup.Copy → (address_for u.phase ≡ Some setup.Copy) ⊎ (copy_up u.register ≡ true)
-  pub empty : given p ≡ true → given u.phase ≡ false → g ≡ register.Empty
+  pub empty : given p ≡ true → given u.phase ≡ false → g ≡ None
   pub same : given p ≡ true → given u.phase ≡ true → g ≡ u.register
   pub up : copy_up g ≡ true → copy_up u.register ≡ true
   pub still : copy_up g ≡ true → begins_program p ≡ false
@@ -112,14 +111,14 @@ module _ (u : BusState) (o : Opcode) where
     program_command : (f : Confirm) → is_copy f ≡ false → commanded u o ≡ act.Program w s f → u.phase ≡ phase.Loading w s (next_in u.phase)
     program_command f h e = grind (arith, nat_tests)
 
-  module _ (p : Phase) (g : Register) (e : commanded u o ≡ act.Prepare p g) where
+  module _ (p : Phase) (g : Option PageRead) (e : commanded u o ≡ act.Prepare p g) where
     command_program : address_for p ≡ Some setup.Program → begins_program p ≡ true
     command_program h = grind (arith, nat_tests)
 
     command_copy : address_for p ≡ Some setup.Copy → copy_up u.register ≡ true
     command_copy h = grind (arith, nat_tests)
 
-    command_empty : given p ≡ true → g ≡ register.Empty
+    command_empty : given p ≡ true → g ≡ None
     command_empty h = grind (arith, nat_tests)
 
     command_quiet : given u.phase ≡ false
@@ -137,7 +136,7 @@ module _ (u : BusState) (o : Opcode) where
       still = λ h. grind (arith, nat_tests);
     }
 
-module _ (u : BusState) (p : Phase) (g : Register) (b : ℕ) where
+module _ (u : BusState) (p : Phase) (g : Option PageRead) (b : ℕ) where
   prepared_address : address u u.phase b ≡ act.Prepare p g → Prepared u p g
   prepared_address e = record {
     before = grind (arith, nat_tests);
@@ -166,7 +165,7 @@ loaded_in : (q : Phase) (w : Row) (s n : Column) (d b : ℕ) → data_in q d ≡
 loaded_in q w s n d b e = record { column = grind (arith, nat_tests); begins = λ h. grind (arith, nat_tests); start = λ h. grind (arith, nat_tests); goes_on = λ h. grind (arith, nat_tests) }
 
 module _ (u : BusState) (c : Cycle) where
-  pub prepared : (p : Phase) (g : Register) → act_of u c ≡ act.Prepare p g → Prepared u p g
+  pub prepared : (p : Phase) (g : Option PageRead) → act_of u c ≡ act.Prepare p g → Prepared u p g
   prepared p g =
       ways u (λ a. a ≡ act.Prepare p g → Prepared u p g) c.kind c.byte
       (λ o. prepared_command u o p g) (λ e. absurd (grind (arith, nat_tests))) (prepared_address u p g c.byte) (λ e. absurd (grind (arith, nat_tests))) (prepared_out u p g c.byte)

@@ -1,78 +1,16 @@
 -- Cells altered one after the other.
-use Rattle.std.proofs.Common.{◌≡◌, ℕ, zero, suc, ◌+◌, ◌-◌, ◌<◌, ◌≤◌, Bool, true, false, cond, List, [], ◌∷◌, ◌++◌, length, get_or, take, drop, set, sym, refl, ap, ◌∙◌, ⊎_elim, arith}
+use Rattle.std.proofs.Common.{◌≡◌, ℕ, zero, suc, ◌+◌, ◌-◌, ◌<◌, ◌≤◌, Bool, true, false, cond, List, [], ◌∷◌, ◌++◌, length, get_or, take, drop, min, sym, refl, ap, ◌∙◌, ⊎_elim, arith}
 use lib.Bits.{bit_and}
+use borrow.Rule.Slice.PartMut.{put_mid, same_len_mid, mid_len}
 use Rattle.std.proofs.lemmas.Nat.{and_le_l}
 use Rattle.std.proofs.lemmas.Bool.{cases_lt}
 use Rattle.std.proofs.lemmas.Bool.Decides.{nat_tests}
-use Rattle.std.proofs.lemmas.List.{get_or-take, get_or-drop, get_or_append_left, get_or-append_right, get_or-replicate, get_or_past, length-append, length-drop, length-replicate, length-take-le, get_or_default}
+use Rattle.std.proofs.lemmas.List.{get_or-take, get_or-drop, get_or_append_left, get_or-append_right, get_or-replicate, get_or_past, length-append, length-drop, length-replicate, length-take-le, get_or_default, ext_get_or}
 use Rattle.chip.specs.Cells.{cell_at, among, altered, blanked, anded, blank_page}
 
--- two ways to alter that agree from i on
-altered_same : (f g : ℕ → ℕ → ℕ) (cs : List ℕ) (i : ℕ) → ((n x : ℕ) → i ≤ n → g n x ≡ f n x) → altered f i cs ≡ altered g i cs
-altered_same f g [] i h = refl
-altered_same f g (x ∷ xs) i h =
-    ap (λ y. y ∷ altered f (i + 1) xs) (sym (h i x (omega arith)))
-    ∙ ap (λ l. g i x ∷ l) (altered_same f g xs (i + 1) (λ n y l. h n y (omega arith)))
-
--- one cell more, the k-th from i on
-altered_step : (f g : ℕ → ℕ → ℕ) (h : ℕ → ℕ) (cs : List ℕ) (i k : ℕ)
-    → ((n x : ℕ) → (n ≡ i + k → ⊥) → g n x ≡ f n x) → ((x : ℕ) → g (i + k) x ≡ h (f (i + k) x))
-    → set (altered f i cs) k (h (get_or (altered f i cs) k 0)) ≡ altered g i cs
-altered_step f g h [] i k same new = refl
-altered_step f g h (x ∷ xs) i zero same new =
-    let z : i + 0 ≡ i = omega arith in
-    ap (λ y. y ∷ altered f (i + 1) xs) (sym (rw z at (new x)))
-    ∙ ap (λ l. g i x ∷ l) (altered_same f g xs (i + 1) (λ n y l. same n y (λ e. omega arith)))
-altered_step f g h (x ∷ xs) i (suc k) same new =
-    let z : i + suc k ≡ i + 1 + k = omega arith in
-    ap (λ y. y ∷ set (altered f (i + 1) xs) k (h (get_or (altered f (i + 1) xs) k 0))) (sym (same i x (λ e. omega arith)))
-    ∙ ap (λ l. g i x ∷ l) (altered_step f g h xs (i + 1) k (λ n y l. same n y (λ e. l (e ∙ z))) (rw z at new))
-
-altered_none : (f : ℕ → ℕ → ℕ) (cs : List ℕ) (i : ℕ) → ((n x : ℕ) → f n x ≡ x) → altered f i cs ≡ cs
-altered_none f [] i h = refl
-altered_none f (x ∷ xs) i h = ap (λ y. y ∷ altered f (i + 1) xs) (h i x) ∙ ap (λ l. x ∷ l) (altered_none f xs (i + 1) h)
-
 module _ (base k : ℕ) where
-  among_none : (i : ℕ) → among base 0 i ≡ false
-  among_none i = grind (arith, nat_tests)
-
-  among_more : (i : ℕ) → (i ≡ base + k → ⊥) → among base (k + 1) i ≡ among base k i
-  among_more i n = grind (arith, nat_tests)
-
-  among_new : among base (k + 1) (base + k) ≡ true
-  among_new = grind (arith, nat_tests)
-
-  among_not_yet : among base k (base + k) ≡ false
-  among_not_yet = grind (arith, nat_tests)
-
-  among_at : (j : ℕ) → j < k → among base k (base + j) ≡ true
+  pub among_at : (j : ℕ) → j < k → among base k (base + j) ≡ true
   among_at j h = grind (arith, nat_tests)
-
--- an erase, cell by cell
-pub blanked_none : (base : ℕ) (cs : List ℕ) → cs ≡ altered (blanked base 0) 0 cs
-blanked_none base cs = sym (altered_none (blanked base 0) cs 0 (λ n x. rw (among_none base 0 n) refl))
-
-pub blanked_more : (base k : ℕ) (cs ds : List ℕ) → ds ≡ altered (blanked base k) 0 cs → set ds (base + k) 0xFF ≡ altered (blanked base (k + 1)) 0 cs
-blanked_more base k cs ds e =
-    let z : 0 + (base + k) ≡ base + k = omega arith in
-    ap (λ l. set l (base + k) 0xFF) e
-    ∙ altered_step (blanked base k) (blanked base (k + 1)) (λ y. 0xFF) cs 0 (base + k)
-    (λ n x other. ap (λ b. cond b 0xFF x) (among_more base k n (λ i. other (i ∙ sym z))))
-    (λ x. rw z (ap (λ b. cond b 0xFF x) (among_new base k)))
-
--- a program, cell by cell
-pub anded_none : (base : ℕ) (page cs : List ℕ) → cs ≡ altered (anded base 0 page) 0 cs
-anded_none base page cs = sym (altered_none (anded base 0 page) cs 0 (λ n x. rw (among_none base 0 n) refl))
-
-pub anded_more : (base k : ℕ) (page cs ds : List ℕ) → ds ≡ altered (anded base k page) 0 cs
-    → set ds (base + k) (bit_and (get_or ds (base + k) 0) (get_or page k 0)) ≡ altered (anded base (k + 1) page) 0 cs
-anded_more base k page cs ds e =
-    let z : 0 + (base + k) ≡ base + k = omega arith in
-    let y : base + k - base ≡ k = omega arith in
-    ap (λ l. set l (base + k) (bit_and (get_or l (base + k) 0) (get_or page k 0))) e
-    ∙ altered_step (anded base k page) (anded base (k + 1) page) (λ v. bit_and v (get_or page k 0)) cs 0 (base + k)
-    (λ n x other. ap (λ b. cond b (bit_and x (get_or page (n - base) 0)) x) (among_more base k n (λ i. other (i ∙ sym z))))
-    (λ x. rw (z, among_new base k, among_not_yet base k, y) refl)
 
 -- what an alteration makes of one cell
 pub altered_length : (f : ℕ → ℕ → ℕ) (cs : List ℕ) (i : ℕ) → length (altered f i cs) ≡ length cs
@@ -97,6 +35,23 @@ module _ (f : ℕ → ℕ → ℕ) (cs : List ℕ) where
 
   altered_bytes : ((i x : ℕ) → x < 256 → f i x < 256) → ((i : ℕ) → cell_at cs i < 256) → (i : ℕ) → cell_at (altered f 0 cs) i < 256
   altered_bytes keeps h i = ⊎_elim (λ l. rw (altered_cell i l) (keeps i (cell_at cs i) (h i))) (λ l. rw (altered_past i l) (omega arith)) (cases_lt i (length cs))
+
+-- the cells of a span, as far as there are any, written anew
+module _ (f : ℕ → ℕ → ℕ) (base n : ℕ) (cs ys : List ℕ) (start stop : ℕ) (starts : start ≡ min base (length cs)) (stops : stop ≡ min (base + n) (length cs)) where
+  pub altered_span : ((i x : ℕ) → among base n i ≡ false → f i x ≡ x) → length ys ≡ stop - start
+      → ((j : ℕ) → j < length ys → get_or ys j 0 ≡ f (base + j) (get_or cs (base + j) 0)) → put_mid start (stop - start) cs ys ≡ altered f 0 cs
+  altered_span beside long each =
+      ext_get_or 0 (put_mid start (stop - start) cs ys) (altered f 0 cs) (same_len ∙ sym (altered_length f cs 0))
+      (λ k h. at k (omega (arith, same_len)) ∙ sym (altered_at f cs 0 k 0 (omega (arith, same_len)) ∙ ap (λ i. f i (get_or cs k 0)) (omega arith)))
+    where
+      front : length (take start cs) ≡ start
+      front = length-take-le start cs (omega arith)
+
+      same_len : length (put_mid start (stop - start) cs ys) ≡ length cs
+      same_len = same_len_mid start (stop - start) cs ys (long ∙ sym (mid_len start stop cs (omega arith)))
+
+      at : (k : ℕ) → k < length cs → get_or (put_mid start (stop - start) cs ys) k 0 ≡ f k (get_or cs k 0)
+      at k l = grind (arith, nat_tests, front, get_or_append_left, get_or-append_right, get_or-take, get_or-drop, beside, each)
 
 one_of : (t : Bool) (x y : ℕ) → x < 256 → y < 256 → cond t x y < 256
 one_of true x y h k = h

@@ -3,19 +3,15 @@ use Rattle.std.proofs.Common.{◌≡◌, ℕ, ◌*◌, true, false, ◌&&◌, Li
 use Rattle.std.proofs.lemmas.Bool.Decides.{nat_tests}
 use Rattle.flash.specs.Addresses.{block_of}
 use Rattle.flash.specs.Statuses.{ready}
-use Rattle.flash.specs.declared.address.Column.{Column}
-use Rattle.flash.specs.declared.address.Row.{Row}
 use Rattle.flash.specs.declared.cycle.Cycle.{Cycle}
-use Rattle.flash.specs.declared.cycle.Kind.TheVariants.{DataOut}
-use Rattle.flash.specs.declared.part.Part.{Part}
 use Rattle.bus.specs.Acts.{act_of}
 use Rattle.bus.specs.Bus.{Reader, breaches_of}
 use Rattle.bus.specs.declared.act.Act.{Act}
 use Rattle.bus.specs.declared.act.Act.TheVariants as act
 use Rattle.bus.specs.declared.state.BusState.{BusState}
-use Rattle.chip.specs.Cells.{cell_at, cell_of, block_erased, row_programmed}
-use Rattle.chip.specs.Chips.{Chip, Memory, answer, chip_step, cells_after, page_after}
-use Rattle.chip.specs.Kept.{Kept, Programmed, Erased, confirms, fills_page, copies, works, ReadOut}
+use Rattle.chip.specs.Cells.{block_erased, row_programmed}
+use Rattle.chip.specs.Chips.{Chip, chip_step, cells_after, page_after}
+use Rattle.chip.specs.Kept.{Kept, Programmed, Erased, confirms, fills_page, copies, works}
 use Rattle.chip.proofs.Alterations.{blanked_cell, blanked_else, anded_cell, anded_else, row_cell}
 
 programmed : (cells page : List ℕ) (row : ℕ) → Programmed cells page (row_programmed row page cells) row
@@ -56,13 +52,5 @@ kept statuses k c = record {
   rests = λ b e h. rw e (no_copy k.reader.bus b k.memory.cells k.memory.page h);
   begins = λ g e. rw e refl;
   loads = λ w s n b e. rw e refl;
-  copied = λ w s b e r i j h. rw (e, r, i) (row_cell (2112 * w.number) k.memory.cells j 0 h);
+  copied = λ x b e r i t j h. rw (e, r, i, t) (row_cell (2112 * x.row.number) k.memory.cells j 0 h);
 }
-
--- a byte of the register is the cell at its row and column
-byte_read : (p : Part) (u : BusState) (m : Memory) (w : Row) (s : Column) (d : ℕ) → act_of u (record { kind = DataOut; byte = answer p u m }) ≡ act.Data w s d
-    → answer p u m ≡ cell_at m.cells (cell_of w.number s.number)
-byte_read p u m w s d e = grind (arith, nat_tests)
-
-pub read_out : (p : Part) (k : Chip) (b : ℕ) → b ≡ answer p k.reader.bus k.memory → ReadOut k b
-read_out p k b e = rw e (byte_read p k.reader.bus k.memory)

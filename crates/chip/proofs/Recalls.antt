@@ -1,5 +1,5 @@
 -- One cycle, and then any cycles: what waits in the buffer, and the cells that are recalled.
-use Rattle.std.proofs.Common.{◌≡◌, ℕ, ◌+◌, ◌*◌, ◌<◌, ◌≤◌, Bool, true, false, cond, ◌||◌, List, [], ◌∷◌, ◌++◌, map, length, set, is_some, Some, None, sym, refl, ap, ◌∙◌, subst, ⊎_elim, arith}
+use Rattle.std.proofs.Common.{◌≡◌, ℕ, ◌+◌, ◌*◌, ◌<◌, ◌≤◌, Bool, true, false, cond, ◌||◌, List, [], ◌∷◌, ◌++◌, map, length, set, is_some, Some, None, Option, sym, refl, ap, ◌∙◌, subst, ⊎_elim, arith}
 use mathlib.Core.List.{foldl, foldl-append}
 use Rattle.std.proofs.lemmas.List.{length-set, length-replicate}
 use Rattle.std.proofs.lemmas.Bool.{both_ways, cases_Bool, lt-ltb}
@@ -18,19 +18,17 @@ use Rattle.bus.specs.declared.act.Confirm.{Confirm}
 use Rattle.bus.specs.declared.act.Confirm.TheVariants as confirm
 use Rattle.bus.specs.declared.breach.Breach.{Breach}
 use Rattle.bus.specs.declared.state.BusState.{BusState}
-use Rattle.bus.specs.declared.state.Busy.{Busy}
-use Rattle.bus.specs.declared.state.Busy.TheVariants as busy
+use Rattle.bus.specs.declared.state.Work.{Work}
+use Rattle.bus.specs.declared.state.Work.TheVariants as work
 use Rattle.bus.specs.declared.state.Phase.{Phase}
 use Rattle.bus.specs.declared.state.Phase.TheVariants as phase
-use Rattle.bus.specs.declared.state.Register.{Register}
-use Rattle.bus.specs.declared.state.Register.TheVariants as register
+use Rattle.bus.specs.declared.state.PageRead.{PageRead}
 use Rattle.bus.specs.declared.state.Setup.{Setup}
 use Rattle.bus.specs.declared.state.Setup.TheVariants as setup
 use Rattle.events.specs.Events.{Thing, broke, Telling, place, happened, later, hand_after, tells as told, follow, follows, events}
 use Rattle.chip.specs.Cells.{cell_at, cell_of, block_erased, blank_page, row_programmed, row_held}
-use Rattle.chip.specs.Chips.{Chip, chip_step, chip_steps, begins_program, cells_after, page_by, page_after, copied_page}
+use Rattle.chip.specs.Chips.{Chip, chip_step, chip_steps, begins_program, cells_after, page_by, page_after, copied_page, first_chip}
 use Rattle.chip.specs.Kept.{copies}
-use Rattle.chip.specs.Models.{first_chip}
 use Rattle.chip.specs.Recalls.{Recall, recall, row_at, span_programmed, Stands, does}
 use Rattle.chip.specs.Remembers.{is_copy, telling, recalling}
 use Rattle.chip.specs.Waits.{address_for, loads, given, Laid, Waits}
@@ -48,7 +46,7 @@ not_loads p e = pair_tests _ _ e
 
 -- where no address stands given, and no bytes
 module _ (u : BusState) (cells page hand : List ℕ) (source : ℕ) (rests : given u.phase ≡ false) (size : length page ≡ 2112) (bytes : (i : ℕ) → cell_at cells i < 256)
-    (none : hand ≡ []) (reading : (w : Row) (s : Column) → u.busy ≡ busy.Read w s true → source ≡ w.number) where
+    (none : hand ≡ []) (reading : (x : PageRead) → u.busy ≡ Some (work.Read x) → x.copy ≡ true → source ≡ x.row.number) where
   for_none : {P : Type 0} (s : Setup) → address_for u.phase ≡ Some s → P
   for_none s e = absurd (both_ways (given u.phase) rests (ap (λ o. is_some o || loads u.phase) e))
 
@@ -65,18 +63,18 @@ module _ (u : BusState) (cells page hand : List ℕ) (source : ℕ) (rests : giv
     copies = for_none setup.Copy;
   }
 
-  at_rest_empty : u.register ≡ register.Empty → Waits u cells page hand source
+  at_rest_empty : u.register ≡ None → Waits u cells page hand source
   at_rest_empty e = at_rest (λ i. absurd (both_ways (copy_up u.register) (ap copy_up e) i))
 
 -- no copy read is busy
-not_reading : {source : ℕ} (y : Busy) → copies y ≡ false → (w : Row) (s : Column) → y ≡ busy.Read w s true → source ≡ w.number
-not_reading y q w s e = absurd (both_ways (copies y) q (ap copies e))
+not_reading : {source : ℕ} (y : Option Work) → copies y ≡ false → (x : PageRead) → y ≡ Some (work.Read x) → x.copy ≡ true → source ≡ x.row.number
+not_reading y q x e t = absurd (both_ways (copies y) q (ap copies e ∙ t))
 
 row_at_lem : (w : Row) (s : Column) → row_at (place w s) ≡ w.number
 row_at_lem w s = omega arith
 
 -- the page where an act prepares, by whether it begins a program
-abbrev turned : Phase → Register → List ℕ → Bool → List ℕ
+abbrev turned : Phase → Option PageRead → List ℕ → Bool → List ℕ
 turned p g page t = page_by (cond t (Some blank_page) None) (act.Prepare p g) page
 
 -- the cells after an act, as recalled
@@ -87,10 +85,10 @@ module _ (u : BusState) (c : Cycle) (cells page hand : List ℕ) (source n : ℕ
   hand_none : (a : Act) → act_of u c ≡ a → loads (moved u a).phase ≡ false → hand_after a hand ≡ []
   hand_none a e = subst (λ a. loads (moved u a).phase ≡ false → hand_after a hand ≡ []) e (acts.hand_none u c hand h.none)
 
-  was_empty : (a : Act) → act_of u c ≡ a → acts.ends a ≡ true → u.register ≡ register.Empty
+  was_empty : (a : Act) → act_of u c ≡ a → acts.ends a ≡ true → u.register ≡ None
   was_empty a e i = h.empty (acts.ends_given u c (ap acts.ends e ∙ i))
 
-  prepares : (p : Phase) (g : Register) → Prepared u p g → Waits (moved u (act.Prepare p g)) cells (page_after u (act.Prepare p g) cells page) hand source
+  prepares : (p : Phase) (g : Option PageRead) → Prepared u p g → Waits (moved u (act.Prepare p g)) cells (page_after u (act.Prepare p g) cells page) hand source
   prepares p g q = record {
     size = page_size (begins_program p);
     cell = h.cell;
@@ -112,26 +110,30 @@ module _ (u : BusState) (c : Cycle) (cells page hand : List ℕ) (source n : ℕ
 
   -- a status byte, which ends what is busy or does not
   module _ (b : ℕ) (q : given u.phase ≡ false) where
-    abbrev after : Bool → Busy → List ℕ
+    abbrev after : Bool → Option Work → List ℕ
     after t y = page_by (cond t (copied_page y cells) None) (act.Status b) page
 
-    status_ends : (y : Busy) → copies y ≡ false → (ended u y).phase ≡ u.phase → (ended u y).register ≡ u.register → (ended u y).busy ≡ busy.Nothing → Waits (ended u y) cells page hand source
+    status_ends : (y : Option Work) → copies y ≡ false → (ended u y).phase ≡ u.phase → (ended u y).register ≡ u.register → (ended u y).busy ≡ None → Waits (ended u y) cells page hand source
     status_ends y f p g n =
         at_rest (ended u y) cells page hand source (ap given p ∙ q) h.size h.cell (h.none (not_loads _ q))
-        (λ w s e. not_reading busy.Nothing refl w s (sym n ∙ e)) (λ i. h.copied (ap copy_up (sym g) ∙ i))
+        (λ x e. not_reading None refl x (sym n ∙ e)) (λ i. h.copied (ap copy_up (sym g) ∙ i))
 
-    status_rests : (t : Bool) (y : Busy) → u.busy ≡ y → Waits (cond t (ended u y) u) cells (after t y) hand source
+    status_read : (x : PageRead) (t : Bool) → x.copy ≡ t → u.busy ≡ Some (work.Read x)
+        → Waits (ended u (Some (work.Read x))) cells (page_by (cond t (Some (row_held x.row.number cells)) None) (act.Status b) page) hand source
+    status_read x true j i =
+        at_rest _ cells (row_held x.row.number cells) hand source q (row_length (2112 * x.row.number) cells) h.cell (h.none (not_loads _ q))
+        (not_reading None refl) (λ k. ap (λ r. row_held r cells) (sym (h.reading x i j)))
+    status_read x false j i =
+        at_rest _ cells page hand source q h.size h.cell (h.none (not_loads _ q)) (not_reading None refl) (λ k. absurd (both_ways x.copy j k))
+
+    status_rests : (t : Bool) (y : Option Work) → u.busy ≡ y → Waits (cond t (ended u y) u) cells (after t y) hand source
     status_rests false y i = h
-    status_rests true busy.Nothing i = h
-    status_rests true busy.Reset i = status_ends busy.Reset refl refl refl refl
-    status_rests true (busy.Read w s true) i =
-        at_rest _ cells (row_held w.number cells) hand source q (row_length (2112 * w.number) cells) h.cell (h.none (not_loads _ q))
-        (not_reading busy.Nothing refl) (λ j. ap (λ r. row_held r cells) (sym (h.reading w s i)))
-    status_rests true (busy.Read w s false) i =
-        at_rest _ cells page hand source q h.size h.cell (h.none (not_loads _ q)) (not_reading busy.Nothing refl) (λ j. absurd (both_ways false refl j))
-    status_rests true busy.CachePage i = status_ends busy.CachePage refl refl refl refl
-    status_rests true (busy.Program n) i = status_ends (busy.Program n) refl refl refl refl
-    status_rests true (busy.Erase n) i = status_ends (busy.Erase n) refl refl refl refl
+    status_rests true None i = h
+    status_rests true (Some work.Reset) i = status_ends (Some work.Reset) refl refl refl refl
+    status_rests true (Some (work.Read x)) i = status_read x x.copy refl i
+    status_rests true (Some work.CachePage) i = status_ends (Some work.CachePage) refl refl refl refl
+    status_rests true (Some (work.Program n)) i = status_ends (Some (work.Program n)) refl refl refl refl
+    status_rests true (Some (work.Erase n)) i = status_ends (Some (work.Erase n)) refl refl refl refl
 
   -- a byte in
   module _ (w : Row) (s k : Column) (b : ℕ) (e : act_of u c ≡ act.Load w s k b) (q : Loaded u.phase w s k) where
@@ -168,29 +170,33 @@ module _ (u : BusState) (c : Cycle) (cells page hand : List ℕ) (source n : ℕ
   -- a confirm
   module _ (a : Act) (e : act_of u c ≡ a) (ends : acts.ends a ≡ true) (after : List ℕ) where
     confirms : (source : ℕ) → given (moved u a).phase ≡ false → (moved u a).register ≡ u.register → ((i : ℕ) → cell_at after i < 256)
-        → ((w : Row) (s : Column) → (moved u a).busy ≡ busy.Read w s true → source ≡ w.number) → Waits (moved u a) after page (hand_after a hand) source
+        → ((x : PageRead) → (moved u a).busy ≡ Some (work.Read x) → x.copy ≡ true → source ≡ x.row.number) → Waits (moved u a) after page (hand_after a hand) source
     confirms source q same bytes reading =
         at_rest_empty (moved u a) after page (hand_after a hand) source q h.size bytes (hand_none a e (not_loads (moved u a).phase q)) reading (same ∙ was_empty a e ends)
 
   step_waits : (a : Act) → act_of u c ≡ a → Waits (moved u a) (cells_after a page cells) (page_after u a cells page) (hand_after a hand) (recalled n a hand cells source).source
   step_waits act.WhileBusy e = h
   step_waits act.OutOfPlace e = h
-  step_waits act.Reset e = at_rest_empty _ cells page [] source refl h.size h.cell refl (not_reading busy.Reset refl) refl
+  step_waits act.Reset e = at_rest_empty _ cells page [] source refl h.size h.cell refl (not_reading (Some work.Reset) refl) refl
   step_waits (act.Prepare p g) e = prepares p g (acts.prepared u c p g e)
   step_waits (act.Status b) e = status_rests b (acts.outs_given u c (ap acts.outs e)) (ready b) u.busy refl
   step_waits (act.Identify bs) e = at_rest _ cells page hand source refl h.size h.cell (hand_none (act.Identify bs) e refl) h.reading h.copied
-  step_waits (act.Read w s true) e = confirms (act.Read w s true) e refl cells (row_at (place w s)) refl refl h.cell (λ v r i. row_at_lem w s ∙ (let z : w ≡ v = cc in ap (λ (x : Row). x.number) z))
-  step_waits (act.Read w s false) e = confirms (act.Read w s false) e refl cells source refl refl h.cell (not_reading (busy.Read w s false) refl)
+  step_waits (act.Read x) e =
+      confirms (act.Read x) e refl cells (cond x.copy (row_at (place x.row x.column)) source) refl refl h.cell
+      (λ y i t.
+      let same : x ≡ y = cc in
+      let copy : x.copy ≡ true = ap (λ (z : PageRead). z.copy) same ∙ t in
+      rw copy (row_at_lem x.row x.column ∙ ap (λ (z : PageRead). z.row.number) same))
   step_waits (act.Data w s b) e =
       at_rest _ cells page hand source refl h.size h.cell (hand_none (act.Data w s b) e refl) h.reading (λ i. absurd (both_ways false refl i))
-  step_waits (act.Erase w) e = confirms (act.Erase w) e refl (block_erased (block_of w) cells) source refl refl (blanked_bytes (135168 * block_of w) 135168 cells h.cell) (not_reading (busy.Erase (block_of w)) refl)
+  step_waits (act.Erase w) e = confirms (act.Erase w) e refl (block_erased (block_of w) cells) source refl refl (blanked_bytes (135168 * block_of w) 135168 cells h.cell) (not_reading (Some (work.Erase (block_of w))) refl)
   step_waits (act.Load w s k b) e = takes_byte w s k b e (acts.loaded_by_lem u c w s k b e)
   step_waits (act.Program w s confirm.Program) e =
-      confirms (act.Program w s confirm.Program) e refl (row_programmed w.number page cells) source refl refl (anded_bytes (2112 * w.number) 2112 cells page h.cell) (not_reading (busy.Program (block_of w)) refl)
+      confirms (act.Program w s confirm.Program) e refl (row_programmed w.number page cells) source refl refl (anded_bytes (2112 * w.number) 2112 cells page h.cell) (not_reading (Some (work.Program (block_of w))) refl)
   step_waits (act.Program w s confirm.Cache) e =
-      confirms (act.Program w s confirm.Cache) e refl (row_programmed w.number page cells) source refl refl (anded_bytes (2112 * w.number) 2112 cells page h.cell) (not_reading busy.CachePage refl)
+      confirms (act.Program w s confirm.Cache) e refl (row_programmed w.number page cells) source refl refl (anded_bytes (2112 * w.number) 2112 cells page h.cell) (not_reading (Some work.CachePage) refl)
   step_waits (act.Program w s confirm.Copy) e =
-      confirms (act.Program w s confirm.Copy) e refl (row_programmed w.number page cells) source refl refl (anded_bytes (2112 * w.number) 2112 cells page h.cell) (not_reading (busy.Program (block_of w)) refl)
+      confirms (act.Program w s confirm.Copy) e refl (row_programmed w.number page cells) source refl refl (anded_bytes (2112 * w.number) 2112 cells page h.cell) (not_reading (Some (work.Program (block_of w))) refl)
 
   -- a program of the bytes in hand
   program_span : (w : Row) (s : Column) (f : Confirm) → is_copy f ≡ false → act_of u c ≡ act.Program w s f
@@ -206,7 +212,7 @@ module _ (u : BusState) (c : Cycle) (cells page hand : List ℕ) (source n : ℕ
   step_cells (act.Prepare p g) e = refl
   step_cells (act.Status b) e = refl
   step_cells (act.Identify bs) e = refl
-  step_cells (act.Read w s f) e = refl
+  step_cells (act.Read x) e = refl
   step_cells (act.Data w s b) e = refl
   step_cells (act.Erase w) e = refl
   step_cells (act.Load w s k b) e = refl
@@ -279,5 +285,5 @@ pub first_stands : (n : ℕ) (cells : List ℕ) → ((i : ℕ) → cell_at cells
 first_stands n cells h = record {
   reader = refl;
   cells = refl;
-  waits = at_rest_empty _ cells blank_page [] 0 refl (length-replicate {A = ℕ} 2112 0xFF) h refl (not_reading busy.Nothing refl) refl;
+  waits = at_rest_empty _ cells blank_page [] 0 refl (length-replicate {A = ℕ} 2112 0xFF) h refl (not_reading None refl) refl;
 }

@@ -12,11 +12,10 @@ use Rattle.bus.specs.declared.act.Act.{Act}
 use Rattle.bus.specs.declared.act.Act.TheVariants as act
 use Rattle.bus.specs.declared.act.Confirm.{Confirm}
 use Rattle.bus.specs.declared.act.Confirm.TheVariants as confirm
-use Rattle.events.specs.Events.{Thing, broke, reset, status, identity, read, byte, erase, program, Place, Telling, place, happened, later, tells as told, follow, events}
-use Rattle.chip.specs.Cells.{cell_at, cell_of, read_at, altered, blanked, anded, row_held}
-use Rattle.chip.specs.Chips.{Chip}
+use Rattle.events.specs.Events.{Thing, erase, program, Place, Telling, place, happened, later, tells as told, follow, events}
+use Rattle.chip.specs.Cells.{cell_at, cell_of, read_at, altered, anded, row_held}
+use Rattle.chip.specs.Chips.{Chip, first_chip}
 use Rattle.chip.specs.Kept.{works}
-use Rattle.chip.specs.Models.{first_chip}
 use Rattle.chip.specs.Recalls.{Recall, recall, row_at, span_programmed, Stands, does, touches, untouched}
 use Rattle.chip.specs.Remembers.{is_copy, changes, held_after, Remembers, EverRemembers}
 use Rattle.chip.proofs.Alterations.{altered_length, blanked_cell, blanked_else, anded_cell, anded_else, row_cell}
@@ -29,16 +28,7 @@ not_false true e = absurd (both_ways false refl e)
 not_false false e = refl
 
 leaves : (r : Recall) (x : Thing) (i : ℕ) → touches x i ≡ false → cell_at (recall r x).cells i ≡ cell_at r.cells i
-leaves r (broke n b) i e = refl
-leaves r reset i e = refl
-leaves r (status b) i e = refl
-leaves r (identity bs) i e = refl
-leaves r (read copy p) i e = refl
-leaves r (byte n b) i e = refl
-leaves r (erase b) i e = blanked_else (135168 * b) 135168 r.cells i e
-leaves r (program confirm.Program p bs) i e = anded_else (cell_of (row_at p) p.column) (length bs) r.cells bs i e
-leaves r (program confirm.Cache p bs) i e = anded_else (cell_of (row_at p) p.column) (length bs) r.cells bs i e
-leaves r (program confirm.Copy p bs) i e = anded_else (2112 * row_at p) 2112 r.cells (row_held r.source r.cells) i e
+leaves r x i e = grind (arith, blanked_else, anded_else)
 
 leave : (xs : List Thing) (r : Recall) (i : ℕ) → untouched i xs ≡ true → cell_at (foldl recall r xs).cells i ≡ cell_at r.cells i
 leave [] r i e = refl
@@ -48,16 +38,7 @@ leave (x ∷ xs) r i e =
 
 -- as many cells as before
 same_length : (r : Recall) (x : Thing) → length (recall r x).cells ≡ length r.cells
-same_length r (broke n b) = refl
-same_length r reset = refl
-same_length r (status b) = refl
-same_length r (identity bs) = refl
-same_length r (read copy p) = refl
-same_length r (byte n b) = refl
-same_length r (erase b) = altered_length (blanked (135168 * b) 135168) r.cells 0
-same_length r (program confirm.Program p bs) = altered_length (anded (cell_of (row_at p) p.column) (length bs) bs) r.cells 0
-same_length r (program confirm.Cache p bs) = altered_length (anded (cell_of (row_at p) p.column) (length bs) bs) r.cells 0
-same_length r (program confirm.Copy p bs) = altered_length (anded (2112 * row_at p) 2112 (row_held r.source r.cells)) r.cells 0
+same_length r x = grind (arith, altered_length)
 
 same_lengths : (xs : List Thing) (r : Recall) → length (foldl recall r xs).cells ≡ length r.cells
 same_lengths [] r = refl
@@ -71,7 +52,7 @@ work_told n act.Reset hand e = absurd (both_ways false refl e)
 work_told n (act.Prepare p g) hand e = absurd (both_ways false refl e)
 work_told n (act.Status b) hand e = absurd (both_ways false refl e)
 work_told n (act.Identify bs) hand e = absurd (both_ways false refl e)
-work_told n (act.Read w c f) hand e = absurd (both_ways false refl e)
+work_told n (act.Read x) hand e = absurd (both_ways false refl e)
 work_told n (act.Data w c b) hand e = absurd (both_ways false refl e)
 work_told n (act.Erase w) hand e = (erase (block_of w), refl, refl)
 work_told n (act.Load w s c b) hand e = absurd (both_ways false refl e)

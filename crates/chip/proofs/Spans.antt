@@ -1,8 +1,7 @@
 -- What is programmed is what is there afterwards: bytes loaded one after the other, and their confirm.
-use Rattle.std.proofs.Common.{◌≡◌, ℕ, zero, suc, ◌+◌, ◌-◌, ◌*◌, ◌<◌, ◌≤◌, Bool, true, false, cond, ◌||◌, eqb, List, [], ◌∷◌, map, length, get_or, set, refl, ap, ◌∙◌, ⊎_elim, arith}
+use Rattle.std.proofs.Common.{◌≡◌, ℕ, zero, suc, ◌+◌, ◌-◌, ◌*◌, ◌<◌, ◌≤◌, true, false, ◌||◌, eqb, List, [], ◌∷◌, map, length, get_or, None, refl, ap, ◌∙◌, ⊎_elim, arith}
 use mathlib.Core.List.{foldl-append}
 use lib.Bits.{bit_and}
-use Rattle.std.proofs.lemmas.Nat.{and_mask}
 use Rattle.std.proofs.lemmas.List.{get_or-set_same, get_or-set_other, get_or-replicate, length-set, length-replicate}
 use Rattle.std.proofs.lemmas.Bool.{eqb-true, lt-ltb, or_cases}
 use Rattle.std.proofs.lemmas.Bool.Decides.{nat_tests}
@@ -17,7 +16,6 @@ use Rattle.bus.specs.declared.act.Act.TheVariants as act
 use Rattle.bus.specs.declared.act.Confirm.{Confirm}
 use Rattle.bus.specs.declared.act.Confirm.TheVariants as confirm
 use Rattle.bus.specs.declared.state.BusState.{BusState}
-use Rattle.bus.specs.declared.state.Busy.TheVariants as busy
 use Rattle.bus.specs.declared.state.Phase.TheVariants as phase
 use Rattle.bus.specs.declared.state.Setup.TheVariants as setup
 use Rattle.chip.specs.Cells.{cell_at, cell_of, read_at, among, anded, blank_page, row_programmed}
@@ -25,6 +23,7 @@ use Rattle.chip.specs.Chips.{Chip, chip_step, chip_steps}
 use Rattle.chip.specs.Kept.{ProgramsKept, CopiesKept, HeldAfter}
 use Rattle.chip.proofs.Alterations.{altered_else}
 use Rattle.chip.proofs.Keeps.{kept}
+use Rattle.chip.proofs.Layings.{and_blank}
 
 abbrev byte : ℕ → Cycle
 byte b = record { kind = DataIn; byte = b }
@@ -41,13 +40,6 @@ record Waiting (k l : Chip) (w : Row) (s : Column) (n : ℕ) (bs : List ℕ) : T
   inside : (j : ℕ) → j < length bs → get_or l.memory.page (n + j) 0 ≡ get_or bs j 0
   outside : (i : ℕ) → among n (length bs) i ≡ false → get_or l.memory.page i 0 ≡ get_or k.memory.page i 0
 
-set_inside : (page : List ℕ) (n b j : ℕ) → n < length page → j < 1 → get_or (set page n b) (n + j) 0 ≡ get_or (b ∷ []) j 0
-set_inside page n b zero h l = ap (λ i. get_or (set page n b) i 0) (omega arith) ∙ get_or-set_same page n b 0 h
-set_inside page n b (suc j) h l = absurd (omega arith)
-
-not_at : (n i : ℕ) → among n 1 i ≡ false → i ≡ n → ⊥
-not_at n i h e = grind (arith, nat_tests)
-
 -- a byte goes to its column, if the page has it
 takes_byte : (statuses : List ℕ) (k : Chip) (w : Row) (s : Column) (n b : ℕ) → n < 2112 → n < length k.memory.page
     → act_of k.reader.bus (byte b) ≡ loading w s (column n) b → Waiting k (chip_step statuses k (byte b)) w s n (b ∷ [])
@@ -57,8 +49,8 @@ takes_byte statuses k w s n b h l e = record {
   idle = rw a refl;
   cells = rw a refl;
   size = rw a (length-set k.memory.page n b);
-  inside = λ j m. rw a (set_inside k.memory.page n b j l m);
-  outside = λ i m. rw a (get_or-set_other k.memory.page n i b 0 (not_at n i m));
+  inside = λ j m. rw a (let z : j ≡ 0 = omega arith in rw z (grind (arith, get_or-set_same)));
+  outside = λ i m. rw a (grind (arith, nat_tests, get_or-set_other));
 }
   where
     t : in_page (column n) ≡ true
@@ -76,20 +68,11 @@ joined k l m w s n b bs p q = record {
   cells = q.cells ∙ p.cells;
   size = q.size ∙ p.size;
   inside = joined_inside;
-  outside = λ i h. q.outside i (not_later i h) ∙ p.outside i (not_first i h);
+  outside = λ i h. grind (arith, nat_tests, p.outside, q.outside);
 }
   where
-    not_later : (i : ℕ) → among n (suc (length bs)) i ≡ false → among (n + 1) (length bs) i ≡ false
-    not_later i h = grind (arith, nat_tests)
-
-    not_first : (i : ℕ) → among n (suc (length bs)) i ≡ false → among n 1 i ≡ false
-    not_first i h = grind (arith, nat_tests)
-
-    before : (i : ℕ) → i < n + 1 → among (n + 1) (length bs) i ≡ false
-    before i h = grind (arith, nat_tests)
-
     joined_inside : (j : ℕ) → j < suc (length bs) → get_or m.memory.page (n + j) 0 ≡ get_or (b ∷ bs) j 0
-    joined_inside zero h = q.outside (n + 0) (before (n + 0) (omega arith)) ∙ p.inside 0 (omega arith)
+    joined_inside zero h = grind (arith, nat_tests, p.inside, q.outside)
     joined_inside (suc j) h = ap (λ i. get_or m.memory.page i 0) (omega arith) ∙ q.inside j (omega arith)
 
 takes_bytes : (statuses : List ℕ) (k : Chip) (w : Row) (s : Column) (n b : ℕ) (bs : List ℕ) → n + length (b ∷ bs) ≤ 2112 → length k.memory.page ≡ 2112
@@ -107,7 +90,7 @@ takes_all statuses k w s (b ∷ bs) z h l e = takes_bytes statuses k w s s.numbe
 
 -- 10h or 15h after them
 confirms_program : (u : BusState) (c : Cycle) (w : Row) (s n : Column) → c.kind ≡ Command → (eqb c.byte 0x10 || eqb c.byte 0x15) ≡ true
-    → u.phase ≡ phase.Loading w s n → u.busy ≡ busy.Nothing → (f : Confirm) × (act_of u c ≡ act.Program w s f)
+    → u.phase ≡ phase.Loading w s n → u.busy ≡ None → (f : Confirm) × (act_of u c ≡ act.Program w s f)
 confirms_program u c w s n k t p i =
     ⊎_elim
     (λ h. let b : c.byte ≡ 0x10 = eqb-true c.byte 0x10 h in (confirm.Program, rw (k, b, i, p) refl))
@@ -115,15 +98,10 @@ confirms_program u c w s n k t p i =
     (or_cases (eqb c.byte 0x10) (eqb c.byte 0x15) t)
 
 -- a cell beside the row, or one for which FFh waits
-and_keeps : (t : Bool) (x y : ℕ) → x < 256 → (t ≡ true → y ≡ 0xFF) → cond t (bit_and x y) x ≡ x
-and_keeps true x y h e = ap (bit_and x) (e refl) ∙ (and_mask x 8 ∙ omega arith)
-and_keeps false x y h e = refl
-
 program_keeps : (cells page : List ℕ) (row i : ℕ) → cell_at cells i < 256 → (among (2112 * row) 2112 i ≡ true → get_or page (i - 2112 * row) 0 ≡ 0xFF)
     → cell_at (row_programmed row page cells) i ≡ cell_at cells i
 program_keeps cells page row i h e =
-    altered_else (anded (2112 * row) 2112 page) cells i
-    (and_keeps (among (2112 * row) 2112 i) (cell_at cells i) (get_or page (i - 2112 * row) 0) h e)
+    altered_else (anded (2112 * row) 2112 page) cells i (grind (arith, nat_tests, and_blank))
 
 programs_row : (statuses : List ℕ) (k : Chip) (c : Cycle) (w : Row) (s : Column) (f : Confirm) → act_of k.reader.bus c ≡ act.Program w s f
     → (chip_step statuses k c).memory.cells ≡ row_programmed w.number k.memory.page k.memory.cells
@@ -161,7 +139,7 @@ programs_kept statuses k w s bs c command ends addressed idle blank some fits =
     rw (foldl-append (chip_step statuses) k (map byte bs) (c ∷ [])) (holds_after statuses k l c w s e.0 bs blank fits p e.1)
 
 -- the 10h of a copy programs the row that was given
-confirms_copy : (u : BusState) (c : Cycle) (w : Row) (s : Column) → c.kind ≡ Command → c.byte ≡ 0x10 → u.phase ≡ phase.Addressed setup.Copy s w → u.busy ≡ busy.Nothing
+confirms_copy : (u : BusState) (c : Cycle) (w : Row) (s : Column) → c.kind ≡ Command → c.byte ≡ 0x10 → u.phase ≡ phase.Addressed setup.Copy s w → u.busy ≡ None
     → act_of u c ≡ act.Program w s confirm.Copy
 confirms_copy u c w s k b p i = rw (k, b, i, p) refl
 

@@ -1,9 +1,10 @@
 -- The model chip: its memory beside the bus reader.
-use Rattle.std.specs.Prelude.{ℕ, Bool, true, false, cond, ◌&&◌, List, [], ◌∷◌, Some, None, Option, ◌==◌, nat_le, nat_lt, slice_index_or, slice_set}
+use Rattle.std.specs.Prelude.{ℕ, Bool, true, false, cond, ◌&&◌, List, [], ◌∷◌, Some, None, Option, ◌==◌, nat_le, nat_lt, replicate, slice_index_or, slice_set}
 use mathlib.Core.List.{foldl}
 use Rattle.std.specs.Str.{bytes_eq}
 use Rattle.flash.specs.Addresses.{block_of, in_page}
 use Rattle.flash.specs.Parts.{blocks_of, identity_of}
+use Rattle.flash.specs.Records.{first_record}
 use Rattle.flash.specs.Statuses.{ready}
 use Rattle.flash.specs.declared.address.Column.{Column}
 use Rattle.flash.specs.declared.cycle.Cycle.{Cycle}
@@ -11,16 +12,16 @@ use Rattle.flash.specs.declared.part.Part.{Part}
 use Rattle.flash.specs.declared.part.Part.TheVariants.{OneGbit, TwoGbit}
 use Rattle.bus.specs.Acts.{act_of}
 use Rattle.bus.specs.Bus.{Reader, step}
+use Rattle.bus.specs.States.{first_bus}
 use Rattle.bus.specs.declared.act.Act.{Act}
 use Rattle.bus.specs.declared.act.Act.TheVariants as act
 use Rattle.bus.specs.declared.state.Given.{Given}
 use Rattle.bus.specs.declared.state.Setup.TheVariants as setup
 use Rattle.bus.specs.declared.state.Phase.{Phase}
 use Rattle.bus.specs.declared.state.Phase.TheVariants as phase
-use Rattle.bus.specs.declared.state.Busy.{Busy}
-use Rattle.bus.specs.declared.state.Busy.TheVariants as busy
-use Rattle.bus.specs.declared.state.Register.{Register}
-use Rattle.bus.specs.declared.state.Register.TheVariants as register
+use Rattle.bus.specs.declared.state.Work.{Work}
+use Rattle.bus.specs.declared.state.Work.TheVariants as work
+use Rattle.bus.specs.declared.state.PageRead.{PageRead}
 use Rattle.bus.specs.declared.state.BusState.{BusState}
 use Rattle.chip.specs.Cells.{cell_at, cell_of, block_erased, row_programmed, blank_page, row_held}
 
@@ -46,13 +47,13 @@ begins_program (phase.Addressed s c w) = false
 begins_program (phase.Loading w s n) = false
 
 -- a copy read that ends leaves the page that it read in the buffer
-abbrev pub copied_page : Busy → List ℕ → Option (List ℕ)
-copied_page busy.Nothing cells = None
-copied_page busy.Reset cells = None
-copied_page (busy.Read w c copy) cells = cond copy (Some (row_held w.number cells)) None
-copied_page busy.CachePage cells = None
-copied_page (busy.Program b) cells = None
-copied_page (busy.Erase b) cells = None
+abbrev pub copied_page : Option Work → List ℕ → Option (List ℕ)
+copied_page None cells = None
+copied_page (Some work.Reset) cells = None
+copied_page (Some (work.Read x)) cells = cond x.copy (Some (row_held x.row.number cells)) None
+copied_page (Some work.CachePage) cells = None
+copied_page (Some (work.Program b)) cells = None
+copied_page (Some (work.Erase b)) cells = None
 
 -- a byte in its column of the page
 abbrev pub loaded : List ℕ → Column → ℕ → List ℕ
@@ -66,7 +67,7 @@ cells_after act.Reset page cells = cells
 cells_after (act.Prepare p g) page cells = cells
 cells_after (act.Status b) page cells = cells
 cells_after (act.Identify bs) page cells = cells
-cells_after (act.Read w c f) page cells = cells
+cells_after (act.Read x) page cells = cells
 cells_after (act.Data w c b) page cells = cells
 cells_after (act.Erase w) page cells = block_erased (block_of w) cells
 cells_after (act.Load w s c b) page cells = cells
@@ -80,7 +81,7 @@ new_page u act.Reset cells = None
 new_page u (act.Prepare p g) cells = cond (begins_program p) (Some blank_page) None
 new_page u (act.Status b) cells = cond (ready b) (copied_page u.busy cells) None
 new_page u (act.Identify bs) cells = None
-new_page u (act.Read w c f) cells = None
+new_page u (act.Read x) cells = None
 new_page u (act.Data w c b) cells = None
 new_page u (act.Erase w) cells = None
 new_page u (act.Load w s c b) cells = None
@@ -94,7 +95,7 @@ loaded_by act.Reset page = page
 loaded_by (act.Prepare p g) page = page
 loaded_by (act.Status b) page = page
 loaded_by (act.Identify bs) page = page
-loaded_by (act.Read w c f) page = page
+loaded_by (act.Read x) page = page
 loaded_by (act.Data w c b) page = page
 loaded_by (act.Erase w) page = page
 loaded_by (act.Load w s c b) page = loaded page c b
@@ -119,7 +120,7 @@ status_after statuses act.Reset s = 0xC0
 status_after statuses (act.Prepare p g) s = s
 status_after statuses (act.Status b) s = s
 status_after statuses (act.Identify bs) s = s
-status_after statuses (act.Read w c f) s = 0xC0
+status_after statuses (act.Read x) s = 0xC0
 status_after statuses (act.Data w c b) s = s
 status_after statuses (act.Erase w) s = status_of statuses (block_of w)
 status_after statuses (act.Load w s c b) t = t
@@ -133,11 +134,11 @@ abbrev pub identity_byte : Part → ℕ → ℕ
 identity_byte p k = slice_index_or (identity_of p) k 0xFF
 
 -- the byte that the chip gives
-abbrev pub register_byte : Register → List ℕ → ℕ
-register_byte register.Empty cells = 0xFF
-register_byte (register.Full w c f) cells = cond (in_page c) (cell_at cells (cell_of w.number c.number)) 0xFF
+abbrev pub register_byte : Option PageRead → List ℕ → ℕ
+register_byte None cells = 0xFF
+register_byte (Some x) cells = cond (in_page x.column) (cell_at cells (cell_of x.row.number x.column.number)) 0xFF
 
-abbrev pub answer_in : Part → Register → Memory → Phase → ℕ
+abbrev pub answer_in : Part → Option PageRead → Memory → Phase → ℕ
 answer_in p r m phase.Quiet = 0xFF
 answer_in p r m phase.Status = m.status
 answer_in p r m phase.Output = register_byte r m.cells
@@ -161,6 +162,13 @@ chip_step statuses k c = record { reader = step k.reader c; memory = remembers s
 
 abbrev pub chip_steps : List ℕ → Chip → List Cycle → Chip
 chip_steps statuses k cs = foldl (chip_step statuses) k cs
+
+-- a chip that has done nothing yet
+abbrev pub first_chip : ℕ → List ℕ → Chip
+first_chip n cells = record {
+  reader = record { bus = first_bus; blocks = replicate n first_record };
+  memory = record { cells = cells; page = blank_page; status = 0xC0 };
+}
 
 -- the reader has heard of no other part than this: so it is from the first cycle on
 abbrev pub same_part : Part → Part → Bool
@@ -199,9 +207,9 @@ own_phase p (phase.Loading w s n) = true
 abbrev pub own : Part → BusState → Bool
 own p u = own_part p u.part && own_phase p u.phase
 
--- a chip that was lent a block record for each block of its part, and whose bus is its own, has room
-abbrev pub enough : Part → ℕ → BusState → Bool
-enough p n u = nat_le (blocks_of p) n && own p u
+-- a chip that was lent a block record for each block of its part has room
+abbrev pub enough : Part → ℕ → Bool
+enough p n = nat_le (blocks_of p) n
 
-abbrev pub room_for : Part → ℕ → BusState → ℕ
-room_for p n u = cond (enough p n u) 65535 0
+abbrev pub room_for : Part → ℕ → ℕ
+room_for p n = cond (enough p n) 65535 0

@@ -1,5 +1,5 @@
 -- What one cycle may do to the memory of a chip: `k` is the chip before the cycle `c`, `l` after it.
-use Rattle.std.specs.Prelude.{◌≡◌, ℕ, ◌+◌, ◌*◌, ◌<◌, ◌≤◌, Bool, true, false, ◌&&◌, ◌||◌, List, [], ◌∷◌, ◌++◌, map, length, ◌==◌, bit_and, nat_eq, slice_index, slice_set}
+use Rattle.std.specs.Prelude.{◌≡◌, ℕ, ◌+◌, ◌*◌, ◌<◌, ◌≤◌, Bool, true, false, ◌&&◌, ◌||◌, List, [], ◌∷◌, ◌++◌, map, length, Some, None, Option, ◌==◌, bit_and, nat_eq, slice_index, slice_set}
 use Rattle.flash.specs.Addresses.{block_of}
 use Rattle.flash.specs.Statuses.{ready}
 use Rattle.flash.specs.declared.address.Column.{Column}
@@ -13,11 +13,11 @@ use Rattle.bus.specs.declared.act.Act.{Act}
 use Rattle.bus.specs.declared.act.Act.TheVariants as act
 use Rattle.bus.specs.declared.act.Confirm.{Confirm}
 use Rattle.bus.specs.declared.breach.Breaches.{Breaches}
-use Rattle.bus.specs.declared.state.Busy.{Busy}
-use Rattle.bus.specs.declared.state.Busy.TheVariants as busy
+use Rattle.bus.specs.declared.state.Work.{Work}
+use Rattle.bus.specs.declared.state.Work.TheVariants as work
 use Rattle.bus.specs.declared.state.Phase.{Phase}
 use Rattle.bus.specs.declared.state.Phase.TheVariants as phase
-use Rattle.bus.specs.declared.state.Register.{Register}
+use Rattle.bus.specs.declared.state.PageRead.{PageRead}
 use Rattle.bus.specs.declared.state.Setup.TheVariants as setup
 use Rattle.chip.specs.Cells.{cell_at, cell_of, read_at, among, blank_page}
 use Rattle.chip.specs.Chips.{Chip, chip_step, chip_steps}
@@ -45,13 +45,13 @@ abbrev pub fills_page : Phase → Cycle → Bool
 fills_page p c = elim c.kind [ Command ↦ nat_eq c.byte 0x80 | Address ↦ false | DataIn ↦ true | DataOut ↦ is_status p ]
 
 -- a copy read is busy
-abbrev pub copies : Busy → Bool
-copies busy.Nothing = false
-copies busy.Reset = false
-copies (busy.Read w c f) = f
-copies busy.CachePage = false
-copies (busy.Program b) = false
-copies (busy.Erase b) = false
+abbrev pub copies : Option Work → Bool
+copies None = false
+copies (Some work.Reset) = false
+copies (Some (work.Read x)) = x.copy
+copies (Some work.CachePage) = false
+copies (Some (work.Program b)) = false
+copies (Some (work.Erase b)) = false
 
 -- an act that works on cells
 abbrev pub works : Act → Bool
@@ -61,7 +61,7 @@ works act.Reset = false
 works (act.Prepare p g) = false
 works (act.Status b) = false
 works (act.Identify bs) = false
-works (act.Read w c f) = false
+works (act.Read x) = false
 works (act.Data w c b) = false
 works (act.Erase w) = true
 works (act.Load w s c b) = false
@@ -92,10 +92,10 @@ pub record Kept (k l : Chip) (c : Cycle) : Type 0 where
   -- page of a copy read that ends
   pub waits : fills_page k.reader.bus.phase c ≡ false → l.memory.page ≡ k.memory.page
   pub rests : (b : ℕ) → act_of k.reader.bus c ≡ act.Status b → (ready b && copies k.reader.bus.busy) ≡ false → l.memory.page ≡ k.memory.page
-  pub begins : (g : Register) → act_of k.reader.bus c ≡ act.Prepare (phase.Addressing setup.Program nothing_given) g → l.memory.page ≡ blank_page
+  pub begins : (g : Option PageRead) → act_of k.reader.bus c ≡ act.Prepare (phase.Addressing setup.Program nothing_given) g → l.memory.page ≡ blank_page
   pub loads : (w : Row) (s n : Column) (b : ℕ) → act_of k.reader.bus c ≡ act.Load w s n b → l.memory.page ≡ slice_set k.memory.page n.number b
-  pub copied : (w : Row) (s : Column) (b : ℕ) → act_of k.reader.bus c ≡ act.Status b → ready b ≡ true → k.reader.bus.busy ≡ busy.Read w s true
-      → (j : ℕ) → j < 2112 → slice_index l.memory.page j ≡ cell_at k.memory.cells (cell_of w.number j)
+  pub copied : (x : PageRead) (b : ℕ) → act_of k.reader.bus c ≡ act.Status b → ready b ≡ true → k.reader.bus.busy ≡ Some (work.Read x) → x.copy ≡ true
+      → (j : ℕ) → j < 2112 → slice_index l.memory.page j ≡ cell_at k.memory.cells (cell_of x.row.number j)
 
 -- the cycles that give these bytes to program, and the confirm that ends them
 abbrev pub given : List ℕ → Cycle → List Cycle
@@ -112,7 +112,7 @@ pub record HeldAfter (before after : List ℕ) (row column : ℕ) (bs : List ℕ
 abbrev pub ProgramsKept : Type 0
 ProgramsKept = (statuses : List ℕ) (k : Chip) (w : Row) (s : Column) (bs : List ℕ) (confirm : Cycle)
     → confirm.kind ≡ Command → (confirm.byte == 0x10 || confirm.byte == 0x15) ≡ true
-    → k.reader.bus.phase ≡ phase.Addressed setup.Program s w → k.reader.bus.busy ≡ busy.Nothing → k.memory.page ≡ blank_page
+    → k.reader.bus.phase ≡ phase.Addressed setup.Program s w → k.reader.bus.busy ≡ None → k.memory.page ≡ blank_page
     → 0 < length bs → s.number + length bs ≤ 2112
     → HeldAfter k.memory.cells (chip_steps statuses k (given bs confirm)).memory.cells w.number s.number bs
 
@@ -122,7 +122,7 @@ ProgramsKept = (statuses : List ℕ) (k : Chip) (w : Row) (s : Column) (bs : Lis
 abbrev pub CopiesKept : Type 0
 CopiesKept = (statuses : List ℕ) (k : Chip) (w : Row) (s : Column) (source : ℕ) (confirm : Cycle)
     → confirm.kind ≡ Command → confirm.byte ≡ 0x10
-    → k.reader.bus.phase ≡ phase.Addressed setup.Copy s w → k.reader.bus.busy ≡ busy.Nothing
+    → k.reader.bus.phase ≡ phase.Addressed setup.Copy s w → k.reader.bus.busy ≡ None
     → ((j : ℕ) → j < 2112 → slice_index k.memory.page j ≡ read_at k.memory.cells source j)
     → (j : ℕ) → j < 2112 → cell_of w.number j < length k.memory.cells
     → read_at (chip_step statuses k confirm).memory.cells w.number j ≡ bit_and (read_at k.memory.cells w.number j) (read_at k.memory.cells source j)

@@ -1,5 +1,6 @@
 pub mod Cells
 pub mod Chips
+pub mod States
 pub mod Models
 pub mod Waits
 pub mod Recalls

@@ -4,10 +4,10 @@ use Rattle.flash.specs.declared.address.Column.{Column}
 use Rattle.flash.specs.declared.address.Row.{Row}
 use Rattle.bus.specs.States.{copy_up}
 use Rattle.bus.specs.declared.state.BusState.{BusState}
-use Rattle.bus.specs.declared.state.Busy.TheVariants as busy
+use Rattle.bus.specs.declared.state.PageRead.{PageRead}
+use Rattle.bus.specs.declared.state.Work.TheVariants as work
 use Rattle.bus.specs.declared.state.Phase.{Phase}
 use Rattle.bus.specs.declared.state.Phase.TheVariants as phase
-use Rattle.bus.specs.declared.state.Register.TheVariants as register
 use Rattle.bus.specs.declared.state.Setup.{Setup}
 use Rattle.bus.specs.declared.state.Setup.TheVariants as setup
 use Rattle.chip.specs.Cells.{cell_at, among, blank_page, row_held}
@@ -55,7 +55,7 @@ pub record Waits (u : BusState) (cells page hand : List ℕ) (source : ℕ) : Ty
   pub blank : address_for u.phase ≡ Some setup.Program → page ≡ blank_page
   pub laid : (w : Row) (s n : Column) → u.phase ≡ phase.Loading w s n → Laid page hand s.number n.number
   pub none : loads u.phase ≡ false → hand ≡ []
-  pub empty : given u.phase ≡ true → u.register ≡ register.Empty
-  pub reading : (w : Row) (s : Column) → u.busy ≡ busy.Read w s true → source ≡ w.number
+  pub empty : given u.phase ≡ true → u.register ≡ None
+  pub reading : (x : PageRead) → u.busy ≡ Some (work.Read x) → x.copy ≡ true → source ≡ x.row.number
   pub copied : copy_up u.register ≡ true → page ≡ row_held source cells
   pub copies : address_for u.phase ≡ Some setup.Copy → page ≡ row_held source cells

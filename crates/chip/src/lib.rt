@@ -4,4 +4,4 @@
 mod cells;
 mod memory;
 pub mod model;
-mod own;
+mod state;

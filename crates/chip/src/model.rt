@@ -1,22 +1,13 @@
 // The model chip: the bus reader inside, cells and status bytes lent by its owner.
-ghost use Rattle.std.specs.Prelude.{◌≡◌, ◌≤◌, length, if◌then◌else◌, IfOk, OnOk, MatchResult, nat_le};
-ghost use Rattle.bus.specs.Bus.{step as bus_step};
-ghost use Rattle.bus.specs.Readers.{held, meant};
-ghost use Rattle.bus.specs.States.{blocks_in};
-ghost use Rattle.chip.specs.Chips.{answer, register_byte, identity_byte, cells_after, chip_step, new_page, page_after};
-ghost use Rattle.chip.specs.Kept.{Kept, ProgramsKept, CopiesKept, ReadOut};
-ghost use Rattle.chip.specs.Models.{memory_of, chip_of, room_of, has_room, means_of, unmoved, Ran, Rests, first_chip};
+ghost use Rattle.std.specs.Prelude.{true, ◌≡◌, ◌≤◌, length, if◌then◌else◌, IfOk, OnOk, MatchResult, nat_le};
+ghost use Rattle.chip.specs.Chips.{own, answer, first_chip};
+ghost use Rattle.chip.specs.Kept.{ProgramsKept, CopiesKept, ReadOut};
 ghost use Rattle.chip.specs.Recalls.{GoesOn};
 ghost use Rattle.chip.specs.Remembers.{EverRemembers};
 ghost use Rattle.port.specs.Meanings.{Fresh, Stepped, Refused, driven, gave};
 ghost use Rattle.flash.specs.Parts.{blocks_of};
 
-use crate::cells::{PAGE, cell, hold_bytes};
-use crate::memory::{READY, blank_page, change_cells, load_byte, new_page, next_status};
-use crate::own::is_own;
-use bus::act::Act;
-use bus::reader::BusReader;
-use bus::state::{BusState, Phase, Register};
+use crate::state::ChipState;
 use flash::cycle::{Cycle, Kind};
 use flash::part::Part;
 use flash::record::BlockRecord;
@@ -24,119 +15,29 @@ use port::port::{Full, HostCycle, Port};
 
 /// A chip of a fixed part. Its cells are lent, 2,112 bytes a row from row 0 on; so are a status byte
 /// for each block, to be answered after a program or an erase of it, and the block records of the bus
-/// reader inside. Beside these it holds one page buffer and a few words.
+/// reader inside. Beside these it holds one page buffer and a few words. Its reader hears of no other
+/// part, since the chip answers its own identity.
 #[derive(Drop)]
 pub struct ModelChip<'a> {
     part: Part,
-    reader: BusReader<'a>,
-    cells: &'a mut [u8],
-    page: [u8; PAGE],
-    status: u8,
     statuses: &'a [u8],
-}
-
-fn register_byte(register: Register, cells: &[u8]) -> u8
-    ensures { result ≡ register_byte register cells.now }
-{
-    match register {
-        Register::Full { row, column, .. } if column.is_in_page() => cell(
-            cells,
-            PAGE * row.number() as usize + column.number() as usize,
-        ),
-        _ => 0xFF,
-    }
-}
-
-fn identity_byte(part: Part, count: u8) -> u8
-    ensures { result ≡ identity_byte part count }
-{
-    let identity = part.identity();
-    if count < 5 {
-        identity[count as usize]
-    } else {
-        0xFF
-    }
+    state: ChipState<'a>,
+    ghost own: { own part state.reader.bus ≡ true },
 }
 
 impl ModelChip<'_> {
-    // The byte that the chip would give now.
-    fn byte_out(&self) -> u8
-        ensures { result ≡ answer self.now.part self.now.reader.bus (memory_of self.now) }
-    {
-        let bus = self.reader.bus();
-        match bus.phase {
-            Phase::Status => self.status,
-            Phase::IdentityBytes { given } => identity_byte(self.part, given.count),
-            Phase::ReadSetup | Phase::Output => register_byte(bus.register, self.cells),
-            _ => 0xFF,
-        }
-    }
+    ghost use Rattle.chip.specs.Models.{has_room};
 
-    fn whole_page(&self, bus: &BusState, act: Act) -> Option<[u8; PAGE]>
-        ensures { result ≡ new_page bus.now act self.now.cells.now }
-    {
-        new_page(self.cells, bus, act)
-    }
-
-    // The page buffer after an act; all else stays.
-    fn turn_page(&mut self, bus: &BusState, act: Act)
-        ensures page { memory_of self.new ≡ record { cells = self.old.cells.now; page = page_after bus.now act self.old.cells.now self.old.page; status = self.old.status } }
-        ensures part { self.new.part ≡ self.old.part }
-        ensures reader { self.new.reader ≡ self.old.reader }
-        ensures statuses { self.new.statuses.now ≡ self.old.statuses.now }
-    {
-        match self.whole_page(bus, act) {
-            Some(page) => self.page = page,
-            None => load_byte(&mut self.page, act),
-        }
-    }
-
-    // The cells after an act; all else stays.
-    fn turn_cells(&mut self, act: Act)
-        ensures cells { memory_of self.new ≡ record { cells = cells_after act self.old.page self.old.cells.now; page = self.old.page; status = self.old.status } }
-        ensures part { self.new.part ≡ self.old.part }
-        ensures reader { self.new.reader ≡ self.old.reader }
-        ensures statuses { self.new.statuses.now ≡ self.old.statuses.now }
-    {
-        let ModelChip {
-            part: _,
-            reader: _,
-            cells,
-            page,
-            status: _,
-            statuses: _,
-        } = self;
-        change_cells(cells, page, act);
-    }
-
-    // One cycle, on the memory and the reader.
-    fn step(&mut self, cycle: Cycle)
-        ensures chip { chip_of self.new ≡ chip_step self.old.statuses.now (chip_of self.old) cycle }
-        ensures means { blocks_in self.new.reader.bus.part ≤ length self.old.reader.blocks.now → meant self.new.reader ≡ bus_step (meant self.old.reader) cycle }
-        ensures kept { Kept (chip_of self.old) (chip_of self.new) cycle }
-        ensures goes_on { GoesOn (chip_of self.old) (chip_of self.new) cycle }
-        ensures part { self.new.part ≡ self.old.part }
-        ensures statuses { self.new.statuses.now ≡ self.old.statuses.now }
-    {
-        let bus = self.reader.bus();
-        let act = bus.act(cycle);
-        self.turn_page(&bus, act);
-        self.turn_cells(act);
-        self.status = next_status(self.statuses, act, self.status);
-        self.reader.read(cycle);
-    }
-}
-
-impl ModelChip<'_> {
     fn has_room(&self) -> bool
         ensures { result ≡ has_room self.now }
     {
-        let bus = self.reader.bus();
-        self.part.blocks() as usize <= self.reader.records() && is_own(self.part, &bus)
+        usize::from(self.part.blocks()) <= self.state.records()
     }
 }
 
 impl Port for ModelChip<'_> {
+    ghost use Rattle.chip.specs.Models.{means_of, chip_of, memory_of, unmoved, Ran, Rests};
+
     ghost meaning = { means_of };
 
     ghost moves = { unmoved };
@@ -153,29 +54,33 @@ impl Port for ModelChip<'_> {
         if !self.has_room() {
             return Err(Full);
         }
-        let Cycle { kind, byte } = cycle.cycle();
-        self.step(Cycle { kind, byte });
+        self.state.step(self.statuses, cycle.into());
         Ok(())
     }
 
     fn take(&mut self) -> Result<u8, Full>
         ensures steps { MatchResult result (λ b. Stepped unmoved (gave b) (means_of self.old) (means_of self.new)) (λ _. Refused (means_of self.old) (means_of self.new)) }
-        ensures runs { MatchResult result (λ b. (b ≡ answer self.old.part self.old.reader.bus (memory_of self.old)) × ReadOut (chip_of self.old) b × Ran self.old self.new (gave b)) (λ _. Rests self.old self.new) }
+        ensures runs { MatchResult result (λ b. (b ≡ answer self.old.part (chip_of self.old).reader.bus (memory_of self.old)) × ReadOut (chip_of self.old) b × Ran self.old self.new (gave b)) (λ _. Rests self.old self.new) }
         ensures goes_on { IfOk result (λ b. GoesOn (chip_of self.old) (chip_of self.new) (gave b)) }
     {
         if !self.has_room() {
             return Err(Full);
         }
-        let byte = self.byte_out();
-        self.step(Cycle {
-            kind: Kind::DataOut,
-            byte,
-        });
+        let byte = self.state.byte_out(self.part);
+        self.state.step(
+            self.statuses,
+            Cycle {
+                kind: Kind::DataOut,
+                byte,
+            },
+        );
         Ok(byte)
     }
 }
 
 impl<'a> ModelChip<'a> {
+    ghost use Rattle.chip.specs.Models.{means_of, chip_of, room_of};
+
     /// A chip that has done nothing yet; the block records lent are set to first ones. Lent as many
     /// of these as the part has blocks, and no more than 2,048, it is a fresh port with full room.
     pub fn new(
@@ -193,14 +98,10 @@ impl<'a> ModelChip<'a> {
         ensures remembers { EverRemembers result.statuses.now (chip_of result) }
         ensures fresh { length blocks.old ≤ 2048 → Fresh (means_of result) }
     {
-        hold_bytes(cells);
         ModelChip {
             part,
-            reader: BusReader::new(blocks),
-            cells,
-            page: blank_page(),
-            status: READY,
             statuses,
+            state: ChipState::new(cells, blocks),
         }
     }
 }

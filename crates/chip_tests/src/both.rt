@@ -1,18 +1,13 @@
 // The same code on both ends.
-use crate::scripts::{cycles_of, run};
+use crate::scripts::{cycles_of, expect, run};
 use chip::model::ModelChip;
-use flash::cycle::{Cycle, Kind};
+use flash::cycle::Cycle;
 use flash::part::Part;
 use flash::record::BlockRecord;
 use port::port::{HostCycle, HostKind, Port};
 use port::send::send;
 use port::tape::Tape;
 use std::test::Fail;
-
-const NOTHING: Cycle = Cycle {
-    kind: Kind::Command,
-    byte: 0,
-};
 
 const RESET: [HostCycle; 2] = [
     HostCycle {
@@ -25,37 +20,24 @@ const RESET: [HostCycle; 2] = [
     },
 ];
 
-fn number(cycle: Cycle) -> u16 {
-    let kind = match cycle.kind {
-        Kind::Command => 0,
-        Kind::Address => 1,
-        Kind::DataIn => 2,
-        Kind::DataOut => 3,
-    };
-    256 * kind + u16::from(cycle.byte)
-}
-
 // A tape answers from its replies, then FFh, writes each cycle at the next place, and is full after
 // the last.
 #[test]
 fn a_tape(rt: HostRuntime) -> Result<(), Fail> {
-    let mut places = [NOTHING; 5];
+    let mut places = [Cycle::default(); 5];
     let mut tape = Tape::new(&mut places, &[0xC0, 0x12]);
     assert_eq!(rt; tape.room(), 5);
-    run(&rt, rt.alloc(), &mut tape, "0FF 3C0 312 3FF 105")?;
+    run(&rt, &mut tape, "0FF 3C0 312 3FF 105")?;
     assert_eq!(rt; tape.room(), 0);
     assert!(rt; tape.take().is_err());
     let expected = cycles_of(rt.alloc(), "0FF 3C0 312 3FF 105")?;
-    assert_eq!(rt; tape.written().len(), expected.len());
-    for (written, cycle) in tape.written().iter().zip(expected.iter()) {
-        assert_eq!(rt; number(*written), number(*cycle));
-    }
+    assert_eq!(rt; tape.written(), expected.as_slice());
     Ok(())
 }
 
 #[test]
 fn a_list_sent_to_either(rt: HostRuntime) -> Result<(), Fail> {
-    let mut places = [NOTHING; 3];
+    let mut places = [Cycle::default(); 3];
     let mut tape = Tape::new(&mut places, &[]);
     assert!(rt; send(&mut tape, &RESET).is_ok());
     assert_eq!(rt; tape.room(), 1);
@@ -65,11 +47,5 @@ fn a_list_sent_to_either(rt: HostRuntime) -> Result<(), Fail> {
     let mut blocks = [BlockRecord::FIRST; 1024];
     let mut chip = ModelChip::new(Part::OneGbit, &mut cells, &[], &mut blocks);
     assert!(rt; send(&mut chip, &RESET).is_ok());
-    match chip.take() {
-        Ok(status) => {
-            assert_eq!(rt; status, 0xC0);
-            Ok(())
-        },
-        Err(_) => Err(Fail::new("the chip has no room")),
-    }
+    expect(&rt, &mut chip, 0xC0, "a reset")
 }

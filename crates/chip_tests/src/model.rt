@@ -5,19 +5,25 @@ use chip::model::ModelChip;
 use flash::part::Part;
 use flash::record::BlockRecord;
 use port::port::Port;
-use std::alloc::Global;
 use std::process::Abort;
 use std::test::Fail;
 
 // Rows 0 to 2, and 1,000 bytes of row 3.
 const CELLS: usize = 3 * 2112 + 1000;
 
-fn run_on(rt: &impl Abort, heap: Global, part: Part, script: &str) -> Result<(), Fail> {
+fn run_on(rt: &(impl Abort + AllocGlobal), part: Part, script: &str) -> Result<(), Fail> {
     let mut cells = [0xFFu8; CELLS];
     let statuses = [0xC0, 0xC1, 0x40];
     let mut blocks = [BlockRecord::FIRST; 2048];
     let mut chip = ModelChip::new(part, &mut cells, &statuses, &mut blocks);
-    run(rt, heap, &mut chip, script)
+    run(rt, &mut chip, script)
+}
+
+fn run_each(rt: &(impl Abort + AllocGlobal), part: Part, scripts: &[&str]) -> Result<(), Fail> {
+    for script in scripts {
+        run_on(rt, part, script)?;
+    }
+    Ok(())
 }
 
 const ONE_GBIT: [&str; 14] = [
@@ -50,10 +56,7 @@ const ONE_GBIT: [&str; 14] = [
 
 #[test]
 fn one_gbit_scripts(rt: HostRuntime) -> Result<(), Fail> {
-    for script in &ONE_GBIT {
-        run_on(&rt, rt.alloc(), Part::OneGbit, script)?;
-    }
-    Ok(())
+    run_each(&rt, Part::OneGbit, &ONE_GBIT)
 }
 
 const TWO_GBIT: [&str; 3] = [
@@ -66,10 +69,7 @@ const TWO_GBIT: [&str; 3] = [
 
 #[test]
 fn two_gbit_scripts(rt: HostRuntime) -> Result<(), Fail> {
-    for script in &TWO_GBIT {
-        run_on(&rt, rt.alloc(), Part::TwoGbit, script)?;
-    }
-    Ok(())
+    run_each(&rt, Part::TwoGbit, &TWO_GBIT)
 }
 
 const STATUSES: [&str; 6] = [
@@ -84,10 +84,7 @@ const STATUSES: [&str; 6] = [
 
 #[test]
 fn status_bytes_by_block(rt: HostRuntime) -> Result<(), Fail> {
-    for script in &STATUSES {
-        run_on(&rt, rt.alloc(), Part::OneGbit, script)?;
-    }
-    Ok(())
+    run_each(&rt, Part::OneGbit, &STATUSES)
 }
 
 fn room_with(part: Part, blocks: &mut [BlockRecord]) -> usize {

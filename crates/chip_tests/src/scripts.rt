@@ -23,47 +23,43 @@ fn run_of(word: &str) -> &str {
     }
 }
 
+// Each crate of tests has this over words of its own: one for both would need a closure and a contract on it.
 pub(crate) fn cycles_of(heap: Global, script: &str) -> Result<Vec<Cycle>, Fail> {
     let mut cycles = Vec::new(heap);
     for word in script.split(' ') {
-        if read_run(run_of(word).as_bytes(), &mut cycles).is_err() {
-            return Err(Fail::new("the script has a word that is no cycle"));
-        }
+        read_run(run_of(word).as_bytes(), &mut cycles)?;
     }
     Ok(cycles)
 }
 
-pub(crate) fn put<P: Port>(port: &mut P, kind: HostKind, byte: u8) -> Result<(), Fail> {
-    match port.put(HostCycle { kind, byte }) {
-        Ok(()) => Ok(()),
-        Err(_) => Err(Fail::new("the port has no room")),
-    }
+fn put<P: Port>(port: &mut P, kind: HostKind, byte: u8) -> Result<(), Fail> {
+    Ok(port.put(HostCycle { kind, byte })?)
 }
 
-fn expect<P: Port>(rt: &impl Abort, port: &mut P, byte: u8, script: &str) -> Result<(), Fail> {
-    match port.take() {
-        Ok(given) => {
-            assert_eq!(rt; given, byte, "{}", script);
-            Ok(())
-        },
-        Err(_) => Err(Fail::new("the port has no room")),
-    }
+/// Takes a byte, and compares it with the one expected.
+pub(crate) fn expect<P: Port>(
+    rt: &impl Abort,
+    port: &mut P,
+    byte: u8,
+    script: &str,
+) -> Result<(), Fail> {
+    let given = port.take()?;
+    assert_eq!(rt; given, byte, "{}", script);
+    Ok(())
 }
 
 /// Runs a script on a port.
 pub(crate) fn run<P: Port>(
-    rt: &impl Abort,
-    heap: Global,
+    rt: &(impl Abort + AllocGlobal),
     port: &mut P,
     script: &str,
 ) -> Result<(), Fail> {
-    let cycles = cycles_of(heap, script)?;
-    for cycle in cycles.iter() {
-        match cycle.kind {
-            Kind::Command => put(port, HostKind::Command, cycle.byte)?,
-            Kind::Address => put(port, HostKind::Address, cycle.byte)?,
-            Kind::DataIn => put(port, HostKind::DataIn, cycle.byte)?,
-            Kind::DataOut => expect(rt, port, cycle.byte, script)?,
+    for Cycle { kind, byte } in cycles_of(rt.alloc(), script)? {
+        match kind {
+            Kind::Command => put(port, HostKind::Command, byte)?,
+            Kind::Address => put(port, HostKind::Address, byte)?,
+            Kind::DataIn => put(port, HostKind::DataIn, byte)?,
+            Kind::DataOut => expect(rt, port, byte, script)?,
         }
     }
     Ok(())

@@ -1,21 +1,12 @@
 // What each fault says of itself.
-use flash::fault::{Fault, Place};
+use flash::fault::Fault;
 use flash::page::Page;
+use std::test::Fail;
 
 const PAGE: Page = Page {
     block: 1025,
     page: 63,
 };
-
-fn name(place: Place) -> &'static str {
-    match place {
-        Place::State => "state",
-        Place::Arguments => "arguments",
-        Place::Record => "record",
-        Place::Port => "port",
-        Place::Chip => "chip",
-    }
-}
 
 // A fault, its number, its place, and its block and page.
 #[derive(Clone, Copy)]
@@ -68,11 +59,13 @@ const ROWS: [Row; 19] = [
 ];
 
 #[test]
-fn each_fault(rt: HostRuntime) {
+fn each_fault(rt: HostRuntime) -> Result<(), Fail> {
     for Row(fault, number, place, block, page) in ROWS {
         assert_eq!(rt; fault.number(), number, "{}", place);
-        assert_eq!(rt; name(fault.place()), place);
+        let shown = fault.place().to_string(rt.alloc())?;
+        assert_eq!(rt; shown.as_str(), place);
         assert_eq!(rt; fault.block(), block);
         assert_eq!(rt; fault.page(), page);
     }
+    Ok(())
 }

@@ -27,12 +27,12 @@ pub(crate) enum Sequence {
 
 impl Sequence {
     /// The page that a timeout of its poll names.
-    pub(crate) fn page(self) -> Option<(u16, u8)> {
+    pub(crate) fn page(self) -> Option<Page> {
         match self {
             Sequence::Poll(Some(page))
             | Sequence::Reset(Some(page))
             | Sequence::Read(page, _)
-            | Sequence::CopyRead(page) => Some((page.block, page.page)),
+            | Sequence::CopyRead(page) => Some(page),
             _ => None,
         }
     }
@@ -83,24 +83,5 @@ pub(crate) fn send<P: Port>(
         ),
         Sequence::CopyRead(page) => send_copy_read(port, part, polls, page),
         Sequence::CopyProgram(page) => send_copy_program(port, part, page.row()),
-    }
-}
-
-/// Nought where there is no fault.
-pub(crate) fn fault_number(sent: Result<(), Fault>) -> u8 {
-    match sent {
-        Ok(()) => 0,
-        Err(fault) => fault.number(),
-    }
-}
-
-/// The page that a fault names.
-pub(crate) fn fault_page(sent: Result<(), Fault>) -> Option<(u16, u8)> {
-    match sent {
-        Ok(()) => None,
-        Err(fault) => match (fault.block(), fault.page()) {
-            (Some(block), Some(page)) => Some((block, page)),
-            _ => None,
-        },
     }
 }

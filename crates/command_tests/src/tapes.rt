@@ -1,20 +1,16 @@
 // Each sequence on a tape, in each way that its poll can go and with each number of places. The cycles
 // are written down from the command tables of the chip.
-use crate::cycles::{add_cycles, number};
-use crate::sequences::{Sequence, fault_number, fault_page, send};
+use crate::cycles::{add_cycles, bytes_out};
+use crate::sequences::{Sequence, send};
 use bus::act::Confirm;
-use flash::cycle::{Cycle, Kind};
+use flash::cycle::Cycle;
+use flash::fault::Fault;
 use flash::page::Page;
 use flash::part::Part;
 use port::tape::Tape;
 use std::alloc::Global;
 use std::process::Abort;
 use std::test::Fail;
-
-const NOTHING: Cycle = Cycle {
-    kind: Kind::Command,
-    byte: 0,
-};
 
 // What a buffer holds before anything is read.
 const UNREAD: u8 = 0x5A;
@@ -147,129 +143,103 @@ const CASES: [Case; 20] = [
     ),
 ];
 
-fn bytes_out(heap: Global, cycles: &[Cycle]) -> Result<Vec<u8>, Fail> {
-    let mut bytes = Vec::new(heap);
-    for cycle in cycles {
-        if let Kind::DataOut = cycle.kind {
-            bytes.push(cycle.byte)?;
-        }
-    }
-    Ok(bytes)
-}
-
-// What a sequence is expected to do: its cycles, the bytes that it gives, and whether it times out.
+// A sequence on a part, polled so often, and what it is expected to do on a tape with places enough:
+// its cycles, the bytes that it gives, and how it ends.
 #[derive(Drop)]
-struct Expected {
+struct Run {
+    part: Part,
+    sequence: Sequence,
+    polls: u16,
     cycles: Vec<Cycle>,
     gives: Vec<u8>,
-    timeout: bool,
+    ends: Result<(), Fault>,
 }
 
-fn expected_of(heap: Global, sequence: Sequence, text: &str, wait: Wait) -> Result<Expected, Fail> {
-    let Wait(_, poll_cycles, status) = wait;
-    let mut cycles = Vec::new(heap);
-    let mut others = Vec::new(heap);
-    let mut timeout = false;
-    for word in text.split(' ') {
-        if word == "poll" {
-            add_cycles(poll_cycles, &mut cycles)?;
-            timeout = status.is_none();
-        } else {
-            add_cycles(word, &mut others)?;
-            if !timeout {
-                add_cycles(word, &mut cycles)?;
+impl Run {
+    fn new(
+        heap: Global,
+        part: Part,
+        sequence: Sequence,
+        text: &str,
+        wait: Wait,
+    ) -> Result<Run, Fail> {
+        let Wait(polls, poll_cycles, status) = wait;
+        let mut cycles = Vec::new(heap);
+        let mut others = Vec::new(heap);
+        let mut ends = Ok(());
+        for word in text.split(' ') {
+            if word == "poll" {
+                add_cycles(poll_cycles, &mut cycles)?;
+                if status.is_none() {
+                    ends = Err(Fault::Timeout(sequence.page()));
+                }
+            } else {
+                add_cycles(word, &mut others)?;
+                if ends.is_ok() {
+                    add_cycles(word, &mut cycles)?;
+                }
             }
         }
-    }
-    let mut gives = bytes_out(heap, others.as_slice())?;
-    if let Sequence::Poll(_) = sequence {
-        gives.push(status.unwrap_or(UNREAD))?;
-    }
-    if timeout {
-        gives = vec![in heap; UNREAD; gives.len()]?;
-    }
-    Ok(Expected {
-        cycles,
-        gives,
-        timeout,
-    })
-}
-
-fn check_with_room(
-    rt: &impl Abort,
-    heap: Global,
-    part: Part,
-    polls: u16,
-    sequence: Sequence,
-    expected: &Expected,
-    room: usize,
-    at: &str,
-) -> Result<(), Fail> {
-    let mut places = vec![in heap; NOTHING; room]?;
-    let replies = bytes_out(heap, expected.cycles.as_slice())?;
-    let mut gives = vec![in heap; UNREAD; expected.gives.len()]?;
-    let mut tape = Tape::new(places.as_mut_slice(), replies.as_slice());
-    let sent = send(&mut tape, part, polls, sequence, gives.as_mut_slice());
-    assert_eq!(rt;
-        tape.written().len(),
-        room.min(expected.cycles.len()),
-        "{}",
-        at
-    );
-    for (written, cycle) in tape.written().iter().zip(expected.cycles.iter()) {
-        assert_eq!(rt; number(*written), number(*cycle), "{}", at);
-    }
-    if room < expected.cycles.len() {
-        assert_eq!(rt; fault_number(sent), 13, "{}", at);
-        assert_eq!(rt; fault_page(sent), None, "{}", at);
-        return Ok(());
-    }
-    assert_eq!(rt; gives.as_slice(), expected.gives.as_slice(), "{}", at);
-    if expected.timeout {
-        assert_eq!(rt; fault_number(sent), 14, "{}", at);
-        assert_eq!(rt; fault_page(sent), sequence.page(), "{}", at);
-        Ok(())
-    } else {
-        assert_eq!(rt; fault_number(sent), 0, "{}", at);
-        Ok(())
-    }
-}
-
-fn check_rooms(
-    rt: &impl Abort,
-    heap: Global,
-    part: Part,
-    sequence: Sequence,
-    text: &str,
-    wait: Wait,
-) -> Result<(), Fail> {
-    let Wait(polls, poll_cycles, _) = wait;
-    let expected = expected_of(heap, sequence, text, wait)?;
-    let at = format!(in heap; "{text}, polled {poll_cycles}")?;
-    for room in 0..expected.cycles.len().saturating_add(3) {
-        check_with_room(
-            rt,
-            heap,
+        let mut gives = bytes_out(heap, others.as_slice())?;
+        if let Sequence::Poll(_) = sequence {
+            gives.push(status.unwrap_or(UNREAD))?;
+        }
+        if ends.is_err() {
+            gives.as_mut_slice().fill(UNREAD);
+        }
+        Ok(Run {
             part,
-            polls,
             sequence,
-            &expected,
-            room,
-            at.as_str(),
-        )?;
+            polls,
+            cycles,
+            gives,
+            ends,
+        })
     }
-    Ok(())
+
+    fn check_with_room(
+        &self,
+        rt: &(impl Abort + AllocGlobal),
+        room: usize,
+        at: &str,
+    ) -> Result<(), Fail> {
+        let heap = rt.alloc();
+        let mut places = vec![in heap; Cycle::default(); room]?;
+        let replies = bytes_out(heap, self.cycles.as_slice())?;
+        let mut gives = vec![in heap; UNREAD; self.gives.len()]?;
+        let mut tape = Tape::new(places.as_mut_slice(), replies.as_slice());
+        let sent = send(
+            &mut tape,
+            self.part,
+            self.polls,
+            self.sequence,
+            gives.as_mut_slice(),
+        );
+        let front = &self.cycles.as_slice()[..room.min(self.cycles.len())];
+        assert_eq!(rt; tape.written(), front, "{}", at);
+        if room < self.cycles.len() {
+            assert_eq!(rt; sent, Err(Fault::NoRoom(None)), "{}", at);
+            return Ok(());
+        }
+        assert_eq!(rt; sent, self.ends, "{}", at);
+        assert_eq!(rt; gives.as_slice(), self.gives.as_slice(), "{}", at);
+        Ok(())
+    }
 }
 
 fn check_waits(
-    rt: &impl Abort,
-    heap: Global,
+    rt: &(impl Abort + AllocGlobal),
     part: Part,
     sequence: Sequence,
     text: &str,
 ) -> Result<(), Fail> {
+    let heap = rt.alloc();
     for wait in WAITS {
-        check_rooms(rt, heap, part, sequence, text, wait)?;
+        let run = Run::new(heap, part, sequence, text, wait)?;
+        let at = format!(in heap; "{text}, polled {}", wait.1)?;
+        for room in 0..run.cycles.len().saturating_add(3) {
+            run.check_with_room(rt, room, at.as_str())?;
+        }
     }
     Ok(())
 }
@@ -277,8 +247,8 @@ fn check_waits(
 #[test]
 fn sequences_on_a_tape(rt: HostRuntime) -> Result<(), Fail> {
     for Case(sequence, one, two) in CASES {
-        check_waits(&rt, rt.alloc(), Part::OneGbit, sequence, one)?;
-        check_waits(&rt, rt.alloc(), Part::TwoGbit, sequence, two)?;
+        check_waits(&rt, Part::OneGbit, sequence, one)?;
+        check_waits(&rt, Part::TwoGbit, sequence, two)?;
     }
     Ok(())
 }

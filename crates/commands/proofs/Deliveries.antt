@@ -4,7 +4,7 @@ use Rattle.flash.specs.declared.address.Column.{Column}
 use Rattle.flash.specs.declared.address.Row.{Row}
 use Rattle.flash.specs.declared.cycle.Cycle.{Cycle}
 use Rattle.flash.specs.declared.fault.Fault.{Fault}
-use Rattle.flash.specs.declared.fault.Fault.TheVariants.{NoRoom, Timeout}
+use Rattle.flash.specs.declared.fault.Fault.TheVariants.{NoRoom}
 use Rattle.flash.specs.declared.opcode.Opcode.TheVariants as op
 use Rattle.flash.specs.declared.page.Page.{Page}
 use Rattle.flash.specs.declared.part.Part.{Part}
@@ -15,9 +15,6 @@ use Rattle.commands.specs.Sequences.{addressed, open_cycles, out_cycles, read_cy
 use Rattle.commands.specs.Sent.{Ran, Cut, Short, Went, Stopped}
 use Rattle.commands.proofs.Polls.{same_poll, first_all}
 use Rattle.commands.proofs.Runs.{ran_as, cut_as, ran_append, cut_here, cut_later, stopped_before}
-
-pub not_timeout : (f : Fault) (at : Option Page) → f ≡ NoRoom None → f ≡ Timeout at → ⊥
-not_timeout f at e h = let z : ◌≡◌ {A = ℕ} 0 1 = cc in omega arith
 
 no_bytes : (o : Option ℕ) (len : ℕ) (rs : List ℕ) → o ≡ None → out_cycles o len rs ≡ []
 no_bytes o len rs e = ap (λ x. out_cycles x len rs) e

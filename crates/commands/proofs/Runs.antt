@@ -1,7 +1,7 @@
 -- What went over a port, put together.
-use Rattle.std.proofs.Common.{◌≡◌, ℕ, suc, ◌+◌, ◌<◌, ◌≤◌, List, [], ◌∷◌, ◌++◌, map, length, get_or, take, set, None, Option, sym, ap, ◌∙◌, subst, inl, inr, ⊎_elim, append-nil, arith, length-append}
-use mathlib.Core.List.{map-append}
-use Rattle.std.proofs.lemmas.List.{take_more, take_more_set, take_all, take-append-le, take-map, length-map, length-take-le}
+use Rattle.std.proofs.Common.{◌≡◌, ℕ, suc, ◌+◌, ◌<◌, ◌≤◌, List, [], ◌∷◌, ◌++◌, map, length, take, None, Ok, Err, Option, Result, MatchResult, IsErrAnd, sym, ap, ◌∙◌, subst, inl, inr, ⊎_elim, append-nil, arith, length-append}
+use Rattle.std.proofs.lemmas.List.{take-append-le, take-map, length-map, length-take-le}
+use Rattle.std.proofs.lemmas.Result.{MatchResult-weaker}
 use Rattle.flash.specs.declared.cycle.Cycle.{Cycle}
 use Rattle.flash.specs.declared.fault.Fault.{Fault}
 use Rattle.flash.specs.declared.fault.Fault.TheVariants.{NoRoom, Timeout}
@@ -11,13 +11,18 @@ use Rattle.port.specs.declared.port.Port.{Ghosts}
 use Rattle.port.proofs.Took.{took_none, took_one, took_append}
 use Rattle.commands.specs.Polls.{polled, first_of}
 use Rattle.commands.proofs.Polls.{first_all}
-use Rattle.commands.specs.Sent.{Ran, Cut, Short, Went, TimedOut, Stopped}
+use Rattle.commands.specs.Sent.{Ran, Cut, Sent, Short, TimedOut, Stopped}
 
 take_past : {A : Type 0} (xs ys : List A) (n : ℕ) → take (length xs + n) (xs ++ ys) ≡ xs ++ take n ys
 take_past [] ys n = ap (λ k. take k ys) (omega arith)
 take_past (x ∷ xs) ys n =
     ap (λ k. take k (x ∷ xs ++ ys)) (let e : suc (length xs) + n ≡ suc (length xs + n) = omega arith in e)
     ∙ ap (λ zs. x ∷ zs) (take_past xs ys n)
+
+-- an error that `?` passes on
+pub passed_on : {T E : Type 0} (r : Result T E) (f : E) (P : T → Type 0) (Q : E → Type 0) → IsErrAnd r (λ e. e ≡ f) → Q f → MatchResult r P Q
+passed_on (Ok v) f P Q h q = absurd h
+passed_on (Err e) f P Q h q = subst Q (sym h) q
 
 module _ {X : Type 0} {p : Ghosts X} where
   pub ran_none : (a : X) → Ran p [] a a
@@ -69,18 +74,12 @@ module _ {X : Type 0} {p : Ghosts X} where
     full = s.full;
   }
 
-  -- a loop that sends what f makes of each element of xs
+  -- a sequence without replies, after other cycles
+  pub sent_after : {T : Type 0} {xs : List Cycle} {a b : X} (ys : List Cycle) (d : X) (r : Result T Fault) → Ran p xs a b → Sent p ys r b d → Sent p (xs ++ ys) r a d
+  sent_after ys d r t s = MatchResult-weaker r s (λ v u. ran_append t u) (λ f u. (u.0, cut_later t u.1))
+
+  -- a loop that sends what f makes of each element of xs, or fills xs with what comes, and is refused
   module _ (f : ℕ → Cycle) (xs : List ℕ) (i : ℕ) where
-    pub ran_more : {a b d : X} → i < length xs → Ran p (map f (take i xs)) a b → Ran p (f (get_or xs i 0) ∷ []) b d → Ran p (map f (take (i + 1) xs)) a d
-    ran_more h s t = rw (take_more xs i 0 h, map-append) (ran_append s t)
-
-    -- or that fills xs with what comes
-    pub ran_more_set : (v : ℕ) {a b d : X} → i < length xs → Ran p (map f (take i xs)) a b → Ran p (f v ∷ []) b d → Ran p (map f (take (i + 1) (set xs i v))) a d
-    ran_more_set v h s t = rw (take_more_set xs i v h, map-append) (ran_append s t)
-
-    pub ran_all : {a b : X} → length xs ≤ i → Ran p (map f (take i xs)) a b → Ran p (map f xs) a b
-    ran_all h s = rw (take_all i xs h) at s
-
     pub ran_cut : {a b d : X} → i < length xs → Ran p (map f (take i xs)) a b → Refused (p.meaning b) (p.meaning d) → Cut p (map f xs) a d
     ran_cut {a} {b} {d} h s r = record {
       short = simp length-map (omega (arith, r.empty, simp length-map at s.took.least, length_taken));
@@ -108,13 +107,6 @@ module _ {X : Type 0} {p : Ghosts X} where
 
   -- a sequence with a poll, after other cycles, or before others that follow only a ready chip
   module _ {n : ℕ} {cs : List ℕ → List Cycle} where
-    pub went_after : {G : List ℕ → Type 0} {xs : List Cycle} {a b d : X} → Ran p xs a b → Went p n cs G b d → Went p n (λ rs. xs ++ cs rs) G a d
-    went_after r w = record { replies = w.replies; ready = w.ready; gives = w.gives; ran = ran_append r w.ran }
-
-    -- the value is not needed
-    pub went_plain : {G : List ℕ → Type 0} {a b : X} → Went p n cs G a b → Went p n cs (λ _. Unit {0}) a b
-    went_plain w = record { replies = w.replies; ready = w.ready; gives = tt; ran = w.ran }
-
     pub stopped_after : {at : Option Page} {f : Fault} {xs : List Cycle} {a b d : X} → Ran p xs a b → Stopped p n at cs f b d → Stopped p n at (λ rs. xs ++ cs rs) f a d
     stopped_after r s =
         ⊎_elim

@@ -12,7 +12,7 @@ use Rattle.port.specs.declared.port.Port.{Ghosts}
 use Rattle.commands.specs.Polls.{command, polled, poll_cycles}
 use Rattle.commands.specs.Sent.{Ran, Cut, Went, Stopped}
 use Rattle.commands.proofs.Polls.{Busy, ends_ready, never_ends, goes_on}
-use Rattle.commands.proofs.Runs.{ran_none, ran_append, cut_refused, cut_later}
+use Rattle.commands.proofs.Runs.{ran_append, cut_refused, cut_later}
 
 -- k busy replies came
 pub record Waited {X : Type 0} (p : Ghosts X) (k : ℕ) (a b : X) : Type 0 where
@@ -22,9 +22,6 @@ pub record Waited {X : Type 0} (p : Ghosts X) (k : ℕ) (a b : X) : Type 0 where
   pub ran : Ran p (map gave replies) a b
 
 module _ {X : Type 0} {p : Ghosts X} where
-  pub waited_none : (a : X) → Waited p 0 a a
-  waited_none a = record { replies = []; busy = tt; count = refl; ran = ran_none a }
-
   pub waited_more : {k s : ℕ} {a b d : X} → Waited p k a b → Ran p (gave s ∷ []) b d → Busy s → Waited p (k + 1) a d
   waited_more {k} {s} w r q = record {
     replies = w.replies ++ s ∷ [];

@@ -15,11 +15,10 @@ use port::port::{HostCycle, HostKind, Port};
 pub(crate) fn put_command<P: Port>(port: &mut P, opcode: Opcode) -> Result<(), Fault>
     ensures { Sent P.Port (command opcode ∷ []) result port.old port.new }
 {
-    port.put(HostCycle {
+    Ok(port.put(HostCycle {
         kind: HostKind::Command,
-        byte: opcode.byte(),
-    })?;
-    Ok(())
+        byte: opcode.into(),
+    })?)
 }
 
 pub(crate) fn put_bytes<P: Port>(port: &mut P, kind: HostKind, bytes: &[u8]) -> Result<(), Fault>
@@ -35,10 +34,9 @@ pub(crate) fn put_row<P: Port>(port: &mut P, part: Part, row: Row) -> Result<(),
     ensures { Sent P.Port (map address_byte (row_bytes (Some part) row)) result port.old port.new }
 {
     match part {
-        Part::OneGbit => put_bytes(port, HostKind::Address, &row.bytes::<2>())?,
-        Part::TwoGbit => put_bytes(port, HostKind::Address, &row.bytes::<3>())?,
+        Part::OneGbit => put_bytes(port, HostKind::Address, &row.bytes::<2>()),
+        Part::TwoGbit => put_bytes(port, HostKind::Address, &row.bytes::<3>()),
     }
-    Ok(())
 }
 
 /// A whole address: the column, then the row.
@@ -51,8 +49,7 @@ pub(crate) fn put_address<P: Port>(
     ensures { Sent P.Port (addressed (Some part) row column) result port.old port.new }
 {
     put_bytes(port, HostKind::Address, &column.bytes())?;
-    put_row(port, part, row)?;
-    Ok(())
+    put_row(port, part, row)
 }
 
 /// Fills the buffer with bytes from the chip.

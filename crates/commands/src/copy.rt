@@ -29,8 +29,7 @@ pub fn send_copy_read<P: Port>(
         page,
         Column::FIRST,
         Opcode::CopyReadConfirm,
-    )?;
-    Ok(())
+    )
 }
 
 /// 85h, the address at column 0, 10h: the page that waits is programmed.
@@ -39,6 +38,5 @@ pub fn send_copy_program<P: Port>(port: &mut P, part: Part, row: Row) -> Result<
 {
     put_command(port, Opcode::CopyProgram)?;
     put_address(port, part, row, Column::FIRST)?;
-    put_command(port, Opcode::ProgramConfirm)?;
-    Ok(())
+    put_command(port, Opcode::ProgramConfirm)
 }

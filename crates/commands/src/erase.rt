@@ -16,6 +16,5 @@ pub fn send_erase<P: Port>(port: &mut P, part: Part, row: Row) -> Result<(), Fau
 {
     put_command(port, Opcode::Erase)?;
     put_row(port, part, row)?;
-    put_command(port, Opcode::EraseConfirm)?;
-    Ok(())
+    put_command(port, Opcode::EraseConfirm)
 }

@@ -16,6 +16,7 @@ pub fn poll<P: Port>(port: &mut P, polls: u16, page: Option<Page>) -> Result<u8,
     ensures { Did P.Port polls page (poll_cycles polls) (λ rs s. polled polls rs ≡ Some s) result port.old port.new }
 {
     put_command(port, Opcode::ReadStatus)?;
+    // Counted, for it is the questions that count; of a port that a closure took from, a proof knows nothing.
     for _turn in 0..polls {
         let status = port.take()?;
         if is_ready(status) {

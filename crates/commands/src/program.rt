@@ -11,6 +11,7 @@ use flash::opcode::Opcode;
 use flash::part::Part;
 use port::port::{HostKind, Port};
 
+// Both types are of other crates, so this is no `From`.
 fn confirm_command(confirm: Confirm) -> Opcode
     ensures { result ≡ confirming confirm }
 {
@@ -34,6 +35,5 @@ pub fn send_program<P: Port>(
     put_command(port, Opcode::Program)?;
     put_address(port, part, row, column)?;
     put_bytes(port, HostKind::DataIn, bytes)?;
-    put_command(port, confirm_command(confirm))?;
-    Ok(())
+    put_command(port, confirm_command(confirm))
 }

@@ -48,6 +48,5 @@ pub fn send_read<P: Port>(
 {
     open_page(port, part, polls, page, column, Opcode::ReadConfirm)?;
     put_command(port, Opcode::Read)?;
-    take_bytes(port, buffer)?;
-    Ok(())
+    take_bytes(port, buffer)
 }

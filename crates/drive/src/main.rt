@@ -11,7 +11,7 @@ mod wrong;
 
 use parse::Script;
 use running::{drive_chip, drive_tape};
-use settings::Settings;
+use settings::{PortSetting, Settings};
 use std::io;
 use std::io::{BufRead, BufReader, BufWriter, Write};
 use std::process::ExitCode;
@@ -20,9 +20,8 @@ use std::process::ExitCode;
 fn read_script(rt: &HostRuntime) -> io::Result<Option<Script>> {
     let heap = rt.alloc();
     let mut script = Script::new(heap);
-    let mut number = 0u64;
-    for line in BufReader::new(heap, rt.stdin())?.split(heap, b'\n') {
-        number = number.saturating_add(1);
+    let lines = BufReader::new(heap, rt.stdin())?.split(heap, b'\n');
+    for (number, line) in (1..=u64::MAX).zip(lines) {
         if let Err(wrong) = script.add_line(heap, line?.as_slice()) {
             eprintln!(rt; "line {number}: {wrong}")?;
             return Ok(None);
@@ -34,16 +33,10 @@ fn read_script(rt: &HostRuntime) -> io::Result<Option<Script>> {
 fn drive<W: Write>(rt: &HostRuntime, out: &mut W, script: Script) -> io::Result<()> {
     let heap = rt.alloc();
     let Script { settings, calls } = script;
-    let Settings {
-        polls,
-        places,
-        replies,
-        chip,
-        ..
-    } = settings;
-    match chip {
-        Some(chip) => drive_chip(heap, out, polls, chip, &calls),
-        None => drive_tape(heap, out, polls, places, replies, &calls),
+    let Settings { polls, port } = settings;
+    match port.unwrap_or_else(|| PortSetting::unsaid(heap)) {
+        PortSetting::Tape(tape) => drive_tape(heap, out, polls, tape, &calls),
+        PortSetting::Chip(chip) => drive_chip(heap, out, polls, chip, &calls),
     }
 }
 

@@ -1,16 +1,15 @@
 // A script as it is read, line by line.
-ghost use Rattle.std.specs.Prelude.{◌≤◌};
-
 use crate::settings::{Setting, Settings};
 use crate::words::{Words, split_words};
 use crate::wrong::Wrong;
 use calls::call::Call;
+use calls::slip::{SlipKind, chain_page, slip_number};
 use driver::script::Step;
 use flash::page::Page;
 use std::alloc::Global;
 
 // Calls that take the place of bytes to program, or a slip.
-fn program_call(name: &str, held: u32, words: &mut Words<'_>) -> Result<Call, Wrong> {
+fn program_call(name: &str, words: &mut Words<'_>) -> Result<Call, Wrong> {
     match name {
         "program" => Ok(Call::Program {
             page: words.page()?,
@@ -21,12 +20,12 @@ fn program_call(name: &str, held: u32, words: &mut Words<'_>) -> Result<Call, Wr
             column: words.column()?,
         }),
         "cache-next" => Ok(Call::CacheNext {
-            slip: words.slip(held)?,
+            slip: words.slip()?,
             page: words.page_in_block()?,
             column: words.column()?,
         }),
         "cache-last" => Ok(Call::CacheLast {
-            slip: words.slip(held)?,
+            slip: words.slip()?,
             page: words.page_in_block()?,
             column: words.column()?,
         }),
@@ -34,7 +33,7 @@ fn program_call(name: &str, held: u32, words: &mut Words<'_>) -> Result<Call, Wr
     }
 }
 
-fn page_call(name: &str, held: u32, words: &mut Words<'_>) -> Result<Call, Wrong> {
+fn page_call(name: &str, words: &mut Words<'_>) -> Result<Call, Wrong> {
     match name {
         "look" => Ok(Call::Look(words.page()?)),
         "read" => Ok(Call::Read {
@@ -46,12 +45,12 @@ fn page_call(name: &str, held: u32, words: &mut Words<'_>) -> Result<Call, Wrong
             source: words.page()?,
             destination: words.page()?,
         }),
-        _ => program_call(name, held, words),
+        _ => program_call(name, words),
     }
 }
 
 // The call of this name, with its arguments but for bytes to program.
-fn read_call(name: &str, held: u32, words: &mut Words<'_>) -> Result<Call, Wrong> {
+fn read_call(name: &str, words: &mut Words<'_>) -> Result<Call, Wrong> {
     match name {
         "identify" => Ok(Call::Identify),
         "close" => Ok(Call::Close),
@@ -66,77 +65,71 @@ fn read_call(name: &str, held: u32, words: &mut Words<'_>) -> Result<Call, Wrong
             block: words.block()?,
         }),
         "settle" => Ok(Call::Settle {
-            slip: words.slip(held)?,
+            slip: words.slip()?,
         }),
         "abandon" => Ok(Call::Abandon {
-            slip: words.slip(held)?,
+            slip: words.slip()?,
         }),
-        _ => page_call(name, held, words),
+        _ => page_call(name, words),
     }
 }
 
-fn bytes_for(heap: Global, call: Call, words: &mut Words<'_>) -> Result<Vec<u8>, Wrong> {
+fn bytes_for(call: Call, words: &mut Words<'_>) -> Result<Vec<u8>, Wrong> {
     match call {
         Call::Program { .. }
         | Call::CacheFirst { .. }
         | Call::CacheNext { .. }
-        | Call::CacheLast { .. } => words.run_of_bytes(heap),
-        _ => Ok(Vec::new(heap)),
-    }
-}
-
-fn slip_at(page: Page, kind: u32) -> u32
-    requires { kind ≤ 3 }
-{
-    8 * (64 * u32::from(page.block) + u32::from(page.page)) + kind
-}
-
-// A page of the block that a slip names.
-fn in_chain(slip: u32, page: u8) -> Page {
-    Page {
-        block: (slip / 512 % 65536) as u16,
-        page,
+        | Call::CacheLast { .. } => words.run_of_bytes(),
+        _ => Ok(Vec::new(words.heap)),
     }
 }
 
 // The slip that a call gives where it is accepted.
 fn slip_of(call: Call) -> Option<u32> {
-    match call {
-        Call::Erase { block } => Some(slip_at(Page { block, page: 0 }, 1)),
-        Call::Program { page, .. } => Some(slip_at(page, 2)),
-        Call::Copy { destination, .. } => Some(slip_at(destination, 2)),
-        Call::CacheFirst { page, .. } => Some(slip_at(page, 3)),
-        Call::CacheNext { slip, page, .. } => Some(slip_at(in_chain(slip, page), 3)),
-        Call::CacheLast { slip, page, .. } => Some(slip_at(in_chain(slip, page), 2)),
-        _ => None,
-    }
+    let (kind, page) = match call {
+        Call::Erase { block } => (SlipKind::Erase, Page { block, page: 0 }),
+        Call::Program { page, .. } => (SlipKind::Program, page),
+        Call::Copy { destination, .. } => (SlipKind::Program, destination),
+        Call::CacheFirst { page, .. } => (SlipKind::Chain, page),
+        Call::CacheNext { slip, page, .. } => (SlipKind::Chain, chain_page(slip, page)),
+        Call::CacheLast { slip, page, .. } => (SlipKind::Program, chain_page(slip, page)),
+        _ => return None,
+    };
+    Some(slip_number(kind, page))
 }
 
 fn is_comment(line: &[u8]) -> bool {
-    for byte in line {
-        match *byte {
-            b' ' | b'\t' | b'\r' => {}
-            other => return other == b'#',
-        }
-    }
-    false
+    line.iter()
+        .copied()
+        .find(|byte| !matches!(*byte, b' ' | b'\t' | b'\r'))
+        == Some(b'#')
 }
 
-/// The calls of a script, each with its words. A script is run whole, so a slip `-` is found while it
-/// is read: `held` is the slip of the last call that gives one, as if it were accepted, and 0 before
-/// any.
+/// The calls of a script, and the words of each. A script is run whole, so a slip `-` is found while it
+/// is read: `held` is the slip of the last call that gives one, as if it were accepted, and before any
+/// the number of a spent slip.
 #[derive(Drop)]
 pub struct Calls {
     pub steps: Vec<Step>,
+    // Beside the steps and not in pairs with them: the run takes a slice of steps.
     pub titles: Vec<String>,
     held: u32,
 }
 
 impl Calls {
-    fn add(&mut self, heap: Global, name: &str, words: &mut Words<'_>) -> Result<(), Wrong> {
-        let call = read_call(name, self.held, words)?;
-        let bytes = bytes_for(heap, call, words)?;
+    fn new(heap: Global) -> Calls {
+        Calls {
+            steps: Vec::new(heap),
+            titles: Vec::new(heap),
+            held: 0,
+        }
+    }
+
+    fn add(&mut self, title: String, name: &str, words: &mut Words<'_>) -> Result<(), Wrong> {
+        let call = read_call(name, words)?;
+        let bytes = bytes_for(call, words)?;
         self.steps.push(Step { call, bytes })?;
+        self.titles.push(title)?;
         self.held = slip_of(call).unwrap_or(self.held);
         Ok(())
     }
@@ -151,37 +144,16 @@ pub struct Script {
 impl Script {
     pub fn new(heap: Global) -> Script {
         Script {
-            settings: Settings::new(heap),
-            calls: Calls {
-                steps: Vec::new(heap),
-                titles: Vec::new(heap),
-                held: 0,
-            },
+            settings: Settings::default(),
+            calls: Calls::new(heap),
         }
     }
 
-    fn add_setting(
-        &mut self,
-        heap: Global,
-        setting: Setting,
-        words: &mut Words<'_>,
-    ) -> Result<(), Wrong> {
+    fn add_setting(&mut self, setting: Setting, words: &mut Words<'_>) -> Result<(), Wrong> {
         if !self.calls.steps.is_empty() {
             return Err(Wrong::Late);
         }
-        self.settings.set(heap, setting, words)
-    }
-
-    fn add_words(&mut self, heap: Global, line: &[String]) -> Result<(), Wrong> {
-        let mut words = Words::new(line);
-        let name = words.word()?;
-        if let Some(setting) = Setting::named(name) {
-            self.add_setting(heap, setting, &mut words)?;
-            return words.end();
-        }
-        self.calls.add(heap, name, &mut words)?;
-        self.calls.titles.push(line.join(heap, " ")?)?;
-        words.end()
+        self.settings.set(setting, words)
     }
 
     /// One line more: a setting, a call, a comment or nothing.
@@ -189,10 +161,15 @@ impl Script {
         if is_comment(line) {
             return Ok(());
         }
-        let words = split_words(heap, line)?;
-        if words.is_empty() {
+        let line = split_words(heap, line)?;
+        let mut words = Words::new(heap, self.calls.held, line.as_slice());
+        let Ok(name) = words.word() else {
             return Ok(());
+        };
+        match Setting::named(name) {
+            Some(setting) => self.add_setting(setting, &mut words)?,
+            None => self.calls.add(line.join(heap, " ")?, name, &mut words)?,
         }
-        self.add_words(heap, words.as_slice())
+        words.end()
     }
 }

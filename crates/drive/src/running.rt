@@ -1,23 +1,16 @@
 // A script's run, on a tape or on a model chip.
 use crate::parse::Calls;
-use crate::settings::ChipSetting;
+use crate::settings::{ChipSetting, TapeSetting};
 use crate::show::ShownAnswer;
-use bus_log::line::line_for;
-use chip::model::ModelChip;
-use driver::run::run;
+use bus_log::line::Log;
 use driver::script::Answer;
-use flash::cycle::{Cycle, Kind};
+use flash::cycle::Cycle;
 use flash::geometry::MOST_BLOCKS;
 use flash::record::BlockRecord;
-use port::tape::Tape;
+use runs::{run_on_chip, run_on_tape};
 use std::alloc::{AllocError, Global};
 use std::io;
 use std::io::Write;
-
-const NOTHING: Cycle = Cycle {
-    kind: Kind::Command,
-    byte: 0,
-};
 
 // A line for each call. Where answers are wanting, memory was.
 fn print_answers<W: Write>(out: &mut W, calls: &Calls, answers: &[Answer]) -> io::Result<()> {
@@ -30,23 +23,9 @@ fn print_answers<W: Write>(out: &mut W, calls: &Calls, answers: &[Answer]) -> io
     Ok(())
 }
 
+// Apart from `drive_tape`: what the tape lends comes back as this returns.
 fn print_cycles<W: Write>(out: &mut W, cycles: &[Cycle]) -> io::Result<()> {
-    for cycle in cycles {
-        out.write_all(&line_for(*cycle))?;
-    }
-    Ok(())
-}
-
-fn run_tape<'a>(
-    heap: Global,
-    polls: u32,
-    places: &'a mut [Cycle],
-    replies: &'a [u8],
-    calls: &Calls,
-    answers: &mut Vec<Answer>,
-) -> Tape<'a> {
-    let tape = Tape::new(places, replies);
-    run(heap, tape, polls, calls.steps.as_slice(), answers)
+    write!(out, "{}", Log(cycles))
 }
 
 /// Runs the calls on a tape and prints the answers, then the cycles.
@@ -54,18 +33,18 @@ pub fn drive_tape<W: Write>(
     heap: Global,
     out: &mut W,
     polls: u32,
-    places: usize,
-    replies: Vec<u8>,
+    setting: TapeSetting,
     calls: &Calls,
 ) -> io::Result<()> {
-    let mut cycles = vec![in heap; NOTHING; places]?;
+    let TapeSetting { places, replies } = setting;
+    let mut cycles = vec![in heap; Cycle::default(); places]?;
     let mut answers = Vec::new(heap);
-    let tape = run_tape(
+    let tape = run_on_tape(
         heap,
-        polls,
         cycles.as_mut_slice(),
         replies.as_slice(),
-        calls,
+        polls,
+        calls.steps.as_slice(),
         &mut answers,
     );
     print_answers(out, calls, answers.as_slice())?;
@@ -87,7 +66,15 @@ pub fn drive_chip<W: Write>(
     } = setting;
     let mut blocks = [BlockRecord::FIRST; MOST_BLOCKS];
     let mut answers = Vec::new(heap);
-    let chip = ModelChip::new(part, cells.as_mut_slice(), statuses.as_slice(), &mut blocks);
-    let _chip = run(heap, chip, polls, calls.steps.as_slice(), &mut answers);
+    let _chip = run_on_chip(
+        heap,
+        part,
+        cells.as_mut_slice(),
+        statuses.as_slice(),
+        &mut blocks,
+        polls,
+        calls.steps.as_slice(),
+        &mut answers,
+    );
     print_answers(out, calls, answers.as_slice())
 }

@@ -1,12 +1,13 @@
 // What a script is run on.
 use crate::words::Words;
 use crate::wrong::Wrong;
+use flash::geometry::{COLUMNS, MOST_BLOCKS, PAGES};
 use flash::part::Part;
-use std::alloc::Global;
+use std::alloc::{AllocError, Global};
 
-const PAGE: usize = 2112;
+const PAGE: usize = COLUMNS as usize;
 
-const MOST_ROWS: u64 = 131_072;
+const MOST_ROWS: u64 = PAGES as u64 * MOST_BLOCKS as u64;
 
 const MOST_PLACES: u64 = 1_048_576;
 
@@ -23,6 +24,7 @@ pub enum Setting {
 }
 
 impl Setting {
+    /// None is no refusal: the word may be a call.
     pub fn named(name: &str) -> Option<Setting> {
         match name {
             "polls" => Some(Setting::Polls),
@@ -36,6 +38,26 @@ impl Setting {
     }
 }
 
+/// What a tape is made of: how many places it has, and its replies.
+#[derive(Drop)]
+pub struct TapeSetting {
+    pub places: usize,
+    pub replies: Vec<u8>,
+}
+
+impl TapeSetting {
+    fn set_places(&mut self, words: &mut Words<'_>) -> Result<(), Wrong> {
+        self.places = words.up_to(MOST_PLACES)?;
+        Ok(())
+    }
+
+    fn add_replies(&mut self, words: &mut Words<'_>) -> Result<(), Wrong> {
+        let bytes = words.bytes()?;
+        self.replies.extend_from_slice(bytes.as_slice())?;
+        Ok(())
+    }
+}
+
 /// What a model chip is made of: its part, its cells, and a status byte for each block.
 #[derive(Drop)]
 pub struct ChipSetting {
@@ -45,23 +67,24 @@ pub struct ChipSetting {
 }
 
 impl ChipSetting {
-    fn new(heap: Global, words: &mut Words<'_>) -> Result<ChipSetting, Wrong> {
+    fn new(words: &mut Words<'_>) -> Result<ChipSetting, Wrong> {
         let part = match words.word()? {
             "1G" => Part::OneGbit,
             "2G" => Part::TwoGbit,
             _ => return Err(Wrong::UnknownPart),
         };
+        // By `as`, here and in `set_cells`: `number` promises so few that their cells can be counted.
         let rows = words.number(MOST_ROWS)? as usize;
         Ok(ChipSetting {
             part,
-            cells: vec![in heap; 0xFF; PAGE * rows]?,
-            statuses: Vec::new(heap),
+            cells: vec![in words.heap; 0xFF; PAGE * rows]?,
+            statuses: Vec::new(words.heap),
         })
     }
 
     // The list of statuses is as long as the highest block named needs.
     fn set_status(&mut self, words: &mut Words<'_>) -> Result<(), Wrong> {
-        let block = words.block()? as usize;
+        let block = usize::from(words.block()?);
         let byte = words.byte()?;
         if self.statuses.len() <= block {
             self.statuses.resize(block + 1, READY)?;
@@ -72,108 +95,91 @@ impl ChipSetting {
         Ok(())
     }
 
-    fn set_cell(&mut self, index: usize, byte: u8) -> Result<(), Wrong> {
-        match self.cells.get_mut(index) {
-            Some(cell) => {
-                *cell = byte;
-                Ok(())
-            }
-            None => Err(Wrong::NoCell),
-        }
-    }
-
-    fn set_cells(&mut self, heap: Global, words: &mut Words<'_>) -> Result<(), Wrong> {
+    fn set_cells(&mut self, words: &mut Words<'_>) -> Result<(), Wrong> {
         let row = words.number(MOST_ROWS - 1)? as usize;
-        let column = words.number(2111)? as usize;
-        let mut index = PAGE * row + column;
-        let bytes = words.bytes(heap)?;
-        for byte in bytes.iter() {
-            self.set_cell(index, *byte)?;
-            index = index.saturating_add(1);
-        }
+        let column = words.number(u64::from(COLUMNS) - 1)? as usize;
+        let bytes = words.bytes()?;
+        let first = PAGE * row + column;
+        let cells = self
+            .cells
+            .as_mut_slice()
+            .get_mut(first..first.saturating_add(bytes.len()))
+            .ok_or(Wrong::NoCell)?;
+        cells.copy_from_slice(bytes.as_slice());
         Ok(())
     }
 }
 
-/// A tape with its replies or, where one is set, a chip.
+/// The port of a script: a tape or a chip.
+#[derive(Drop)]
+pub enum PortSetting {
+    Tape(TapeSetting),
+    Chip(ChipSetting),
+}
+
+impl PortSetting {
+    /// The port of a script that says nothing of it.
+    pub fn unsaid(heap: Global) -> PortSetting {
+        PortSetting::Tape(TapeSetting {
+            places: 4096,
+            replies: Vec::new(heap),
+        })
+    }
+}
+
+/// What a script has said of its run.
 #[derive(Drop)]
 pub struct Settings {
     pub polls: u32,
-    pub places: usize,
-    pub replies: Vec<u8>,
-    pub chip: Option<ChipSetting>,
-    taped: bool,
+    pub port: Option<PortSetting>,
+}
+
+impl Default for Settings {
+    fn default() -> Settings {
+        Settings {
+            polls: 1,
+            port: None,
+        }
+    }
 }
 
 impl Settings {
-    pub fn new(heap: Global) -> Settings {
-        Settings {
-            polls: 1,
-            places: 4096,
-            replies: Vec::new(heap),
-            chip: None,
-            taped: false,
+    fn set_polls(&mut self, words: &mut Words<'_>) -> Result<(), Wrong> {
+        self.polls = words.number32()?;
+        Ok(())
+    }
+
+    fn tape(&mut self, heap: Global) -> Result<&mut TapeSetting, Wrong> {
+        match self.port.get_or_insert_with(|| PortSetting::unsaid(heap)) {
+            PortSetting::Tape(tape) => Ok(tape),
+            PortSetting::Chip(_) => Err(Wrong::TwoPorts),
         }
     }
 
-    fn on_tape(&mut self) -> Result<(), Wrong> {
-        self.taped = true;
-        if self.chip.is_some() {
-            Err(Wrong::TwoPorts)
-        } else {
-            Ok(())
-        }
-    }
-
-    fn set_chip(&mut self, heap: Global, words: &mut Words<'_>) -> Result<(), Wrong> {
-        if self.taped || self.chip.is_some() {
+    fn set_chip(&mut self, words: &mut Words<'_>) -> Result<(), Wrong> {
+        if self.port.is_some() {
             return Err(Wrong::TwoPorts);
         }
-        self.chip = Some(ChipSetting::new(heap, words)?);
+        self.port = Some(PortSetting::Chip(ChipSetting::new(words)?));
         Ok(())
     }
 
-    fn set_tape(&mut self, words: &mut Words<'_>) -> Result<(), Wrong> {
-        self.on_tape()?;
-        self.places = words.number(MOST_PLACES)? as usize;
-        Ok(())
-    }
-
-    fn add_replies(&mut self, heap: Global, words: &mut Words<'_>) -> Result<(), Wrong> {
-        self.on_tape()?;
-        let bytes = words.bytes(heap)?;
-        self.replies.extend_from_slice(bytes.as_slice())?;
-        Ok(())
-    }
-
-    fn set_in_chip(
-        &mut self,
-        heap: Global,
-        setting: Setting,
-        words: &mut Words<'_>,
-    ) -> Result<(), Wrong> {
-        match (&mut self.chip, setting) {
-            (None, _) => Err(Wrong::NoChip),
-            (Some(chip), Setting::Status) => chip.set_status(words),
-            (Some(chip), _) => chip.set_cells(heap, words),
+    fn chip(&mut self) -> Result<&mut ChipSetting, Wrong> {
+        match &mut self.port {
+            Some(PortSetting::Chip(chip)) => Ok(chip),
+            _ => Err(Wrong::NoChip),
         }
     }
 
-    pub fn set(
-        &mut self,
-        heap: Global,
-        setting: Setting,
-        words: &mut Words<'_>,
-    ) -> Result<(), Wrong> {
+    // A match and no table of functions: the settings set different parts.
+    pub fn set(&mut self, setting: Setting, words: &mut Words<'_>) -> Result<(), Wrong> {
         match setting {
-            Setting::Polls => {
-                self.polls = words.number32()?;
-                Ok(())
-            }
-            Setting::Tape => self.set_tape(words),
-            Setting::Replies => self.add_replies(heap, words),
-            Setting::Chip => self.set_chip(heap, words),
-            Setting::Status | Setting::Cell => self.set_in_chip(heap, setting, words),
+            Setting::Polls => self.set_polls(words),
+            Setting::Tape => self.tape(words.heap)?.set_places(words),
+            Setting::Replies => self.tape(words.heap)?.add_replies(words),
+            Setting::Chip => self.set_chip(words),
+            Setting::Status => self.chip()?.set_status(words),
+            Setting::Cell => self.chip()?.set_cells(words),
         }
     }
 }

@@ -2,90 +2,52 @@
 ghost use Rattle.std.specs.Prelude.{◌≤◌, IfOk};
 
 use crate::wrong::Wrong;
+use bus_log::hex::byte_of;
 use flash::address::Column;
 use flash::page::Page;
 use std::alloc::Global;
+use std::mem;
 use std::str::from_utf8;
 
 /// The words between spaces, tabs and carriage returns.
-pub fn split_words(heap: Global, line: &[u8]) -> Result<Vec<String>, Wrong> {
-    let Ok(text) = from_utf8(line) else {
-        return Err(Wrong::NotText);
-    };
-    let mut words = Vec::new(heap);
-    for word in text.split([' ', '\t', '\r']) {
-        if !word.is_empty() {
-            words.push(String::from_str(heap, word)?)?;
-        }
-    }
+pub fn split_words(heap: Global, line: &[u8]) -> Result<Vec<&str>, Wrong> {
+    let text = from_utf8(line).map_err(|_| Wrong::NotText)?;
+    let words = text
+        .split([' ', '\t', '\r'])
+        .filter(|word| !word.is_empty())
+        .collect(heap)?;
     Ok(words)
 }
 
-fn hex_of(digit: u8) -> Option<u8> {
-    match digit {
-        b'0'..=b'9' => Some(digit - b'0'),
-        b'A'..=b'F' => Some(digit - b'A' + 10),
-        b'a'..=b'f' => Some(digit - b'a' + 10),
-        _ => None,
-    }
-}
-
-fn byte_of(high: u8, low: u8) -> Option<u8> {
-    match (hex_of(high), hex_of(low)) {
-        (Some(high), Some(low)) => Some(high % 16 * 16 + low % 16),
-        _ => None,
-    }
-}
-
-// Bytes of two digits each.
-fn bytes_of(heap: Global, digits: &str) -> Result<Vec<u8>, Wrong> {
-    let mut bytes = Vec::new(heap);
-    let mut first = None;
-    for digit in digits.bytes() {
-        match first {
-            None => first = Some(digit),
-            Some(high) => {
-                first = None;
-                bytes.push(byte_of(high, digit).ok_or(Wrong::Hex)?)?;
-            }
-        }
-    }
-    match first {
-        None => Ok(bytes),
-        Some(_) => Err(Wrong::Hex),
-    }
-}
-
-/// Words of a line that are taken one after the other.
+/// Words of a line that are taken one after the other, with the slip that `-` stands for and the heap
+/// that their bytes go to.
 #[derive(Drop)]
 pub struct Words<'a> {
-    words: &'a [String],
-    next: usize,
+    pub heap: Global,
+    held: u32,
+    words: &'a [&'a str],
 }
 
 impl<'a> Words<'a> {
-    pub fn new(words: &'a [String]) -> Words<'a> {
-        Words { words, next: 0 }
+    pub fn new(heap: Global, held: u32, words: &'a [&'a str]) -> Words<'a> {
+        Words { heap, held, words }
     }
 
     pub fn word(&mut self) -> Result<&'a str, Wrong> {
-        if self.next >= self.words.len() {
-            return Err(Wrong::MissingWord);
+        match self.words {
+            [word, others @ ..] => {
+                self.words = others;
+                Ok(*word)
+            }
+            [] => Err(Wrong::MissingWord),
         }
-        let word = self.words[self.next].as_str();
-        self.next += 1;
-        Ok(word)
     }
 }
 
 impl Words<'_> {
-    fn is_empty(&self) -> bool {
-        self.next >= self.words.len()
-    }
-
     /// No word may be left.
     pub fn end(&self) -> Result<(), Wrong> {
-        if self.is_empty() {
+        if self.words.is_empty() {
             Ok(())
         } else {
             Err(Wrong::ExtraWord)
@@ -103,12 +65,20 @@ impl Words<'_> {
         }
     }
 
+    /// The same in the type that is wanted, which holds the most.
+    pub fn up_to<T: TryFrom<u64>>(&mut self, most: u64) -> Result<T, Wrong>
+    where
+        T::Error: Drop,
+    {
+        T::try_from(self.number(most)?).map_err(|_| Wrong::Number { most })
+    }
+
     pub fn block(&mut self) -> Result<u16, Wrong> {
-        Ok(self.number(65_535)? as u16)
+        self.up_to(u16::MAX.into())
     }
 
     pub fn page_in_block(&mut self) -> Result<u8, Wrong> {
-        Ok(self.number(255)? as u8)
+        self.up_to(u8::MAX.into())
     }
 
     pub fn page(&mut self) -> Result<Page, Wrong> {
@@ -118,49 +88,53 @@ impl Words<'_> {
     }
 
     pub fn column(&mut self) -> Result<Column, Wrong> {
-        Ok(Column::new(self.number(65_535)? as u16))
+        Ok(Column::new(self.up_to(u16::MAX.into())?))
     }
 
     pub fn number32(&mut self) -> Result<u32, Wrong> {
-        Ok(self.number(4_294_967_295)? as u32)
+        self.up_to(u32::MAX.into())
     }
 
     pub fn length(&mut self) -> Result<usize, Wrong> {
-        Ok(self.number(u64::MAX)? as usize)
+        self.up_to(u64::MAX)
     }
 
     /// The number of a slip; `-` is the one held.
-    pub fn slip(&mut self, held: u32) -> Result<u32, Wrong> {
-        if self.next < self.words.len() && self.words[self.next].as_str() == "-" {
-            self.next += 1;
-            return Ok(held);
+    pub fn slip(&mut self) -> Result<u32, Wrong> {
+        match self.words {
+            ["-", others @ ..] => {
+                self.words = others;
+                Ok(self.held)
+            }
+            _ => self.number32(),
         }
-        self.number32()
     }
 
     /// A byte of two digits.
     pub fn byte(&mut self) -> Result<u8, Wrong> {
-        match self.word()?.as_bytes() {
-            [high, low] => byte_of(*high, *low).ok_or(Wrong::Hex),
-            _ => Err(Wrong::Hex),
-        }
+        byte_of(self.word()?.as_bytes()).ok_or(Wrong::Hex)
     }
 
     /// All words that are left, of two digits each; there is one at least.
-    pub fn bytes(&mut self, heap: Global) -> Result<Vec<u8>, Wrong> {
-        let mut bytes = Vec::new(heap);
-        bytes.push(self.byte()?)?;
-        for _ in self.next..self.words.len() {
-            bytes.push(self.byte()?)?;
+    pub fn bytes(&mut self) -> Result<Vec<u8>, Wrong> {
+        match mem::take(&mut self.words) {
+            [] => Err(Wrong::MissingWord),
+            words => words
+                .iter()
+                .map(|word| byte_of(word.as_bytes()).ok_or(Wrong::Hex))
+                .try_collect(self.heap),
         }
-        Ok(bytes)
     }
 
     /// One word of bytes, two digits each; `-` for none.
-    pub fn run_of_bytes(&mut self, heap: Global) -> Result<Vec<u8>, Wrong> {
+    pub fn run_of_bytes(&mut self) -> Result<Vec<u8>, Wrong> {
         match self.word()? {
-            "-" => Ok(Vec::new(heap)),
-            digits => bytes_of(heap, digits),
+            "-" => Ok(Vec::new(self.heap)),
+            digits => digits
+                .as_bytes()
+                .chunks(2)
+                .map(|pair| byte_of(pair).ok_or(Wrong::Hex))
+                .try_collect(self.heap),
         }
     }
 }

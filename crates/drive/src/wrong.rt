@@ -1,8 +1,9 @@
 // What is wrong with a line of a script.
 use std::alloc::{AllocError, AllocFailed};
+use std::error::Error;
 use std::fmt;
 
-#[derive(Clone, Copy)]
+#[derive(Clone, Copy, Debug, PartialEq, Eq)]
 pub enum Wrong {
     NotText,
     UnknownWord,
@@ -52,3 +53,5 @@ impl fmt::Display for Wrong {
         }
     }
 }
+
+impl Error for Wrong {}

@@ -1,26 +1,20 @@
 -- Slips given out and taken back, and what stands after a call, told by calls and answers.
-use Rattle.std.proofs.Common.{◌≡◌, ℕ, ◌+◌, ◌<◌, ◌≤◌, Bool, true, false, not, eqb, List, get_or, is_some, Some, None, Option, sym, refl, ap, ◌∙◌, ⊎_elim, arith}
-use Rattle.std.proofs.lemmas.Bool.Decides.{nat_tests}
-use Rattle.flash.specs.Records.{first_record}
+use Rattle.std.proofs.Common.{◌≡◌, ℕ, ◌+◌, ◌<◌, ◌≤◌, true, false, not, eqb, List, is_some, Some, None, Option, refl, ap, ◌∙◌, arith}
 use Rattle.flash.specs.Statuses.{verdict_of}
 use Rattle.flash.specs.declared.address.Column.{Column}
 use Rattle.flash.specs.declared.fault.Fault.{Fault}
 use Rattle.flash.specs.declared.page.Page.{Page}
 use Rattle.flash.specs.declared.part.Part.{Part}
-use Rattle.flash.specs.declared.record.BlockRecord.{BlockRecord}
-use Rattle.flash.specs.declared.record.Pages.{Pages}
 use Rattle.bus.specs.Bus.{Reader}
-use Rattle.bus.specs.States.{allowed_in}
 use Rattle.bus.specs.declared.state.Phase.{Phase}
-use Rattle.bus.specs.declared.state.Busy.{Busy}
-use Rattle.bus.specs.declared.state.Register.{Register}
-use Rattle.record.specs.Judgements.{unfit, unready}
-use Rattle.calls.specs.Table.{slip_page, chain_page, most}
+use Rattle.bus.specs.declared.state.Work.{Work}
+use Rattle.bus.specs.declared.state.PageRead.{PageRead}
+use Rattle.calls.specs.Table.{slip_page, chain_page}
 use Rattle.calls.specs.declared.call.Call.{Call}
 use Rattle.calls.specs.declared.call.Call.TheVariants as call
 use Rattle.driver.specs.Views.{View, block_page, erase_slip, program_slip, chain_slip, slip_out, block_at_work, is_stuck}
 use Rattle.driver.specs.Views as views
-use Rattle.driver.specs.Refusals.{free_fault, reset_fault, is_out, state_fault, argument_fault, program_fault, record_fault, port_fault, refusal, page_named}
+use Rattle.driver.specs.Refusals.{free_fault, reset_fault, is_out, state_fault, refusal}
 use Rattle.driver.specs.declared.standing.Standing.{Standing}
 use Rattle.driver.specs.declared.standing.Standing.TheVariants as standing
 use Rattle.flash.specs.Faults.{number_of}
@@ -31,13 +25,13 @@ use Rattle.commands.specs.Polls.{polled, left, first_of}
 use Rattle.driver.specs.Laws.{one, given, returned, working, stands_after}
 use Rattle.driver.specs.Outcomes.{Reply, refused, Outcome, named, identified_by, looked, read_by, next_by, last_by, copied_by, verdict_reply, settled_by, reset_by, accepted, outcome_at, outcome}
 use Rattle.driver.proofs.Holds.{reader_at, Works, Held, some_none, or_none, free_ready, slip_out_lem}
-use Rattle.driver.proofs.Judges.{or_some}
+use Rattle.driver.proofs.Reasons.{of_reason, refusal_within}
 
 abbrev pub out_of : Standing → ℕ
 out_of s = one (is_some (slip_out s))
 
 -- the reader has work under way exactly where a slip is out
-working_by : (v : View) (t : Standing) (h : Phase) (b : Busy) (g : Register) (k : Option ℕ) → Works v.part t b k → working (reader_at v h b g k) ≡ out_of t
+working_by : (v : View) (t : Standing) (h : Phase) (b : Option Work) (g : Option PageRead) (k : Option ℕ) → Works v.part t b k → working (reader_at v h b g k) ≡ out_of t
 working_by v standing.Ready h b g k w = rw (w.0, w.1) refl
 working_by v standing.Stuck h b g k w = rw w.1 (simp w.0)
 working_by v (standing.Erasing x) h b g k w = rw w.0 refl
@@ -46,55 +40,6 @@ working_by v (standing.Chaining p) h b g k w = rw (w.0, w.1) refl
 
 pub working_is : (v : View) (r : Reader) → Held v r → working r ≡ out_of v.standing
 working_is v r k = ap working k.is ∙ working_by v v.standing k.phase k.busy k.register k.chain k.works
-
--- ## Numbers of the refusals before the chip
-
-state_low : (o : Option Part) (s : Standing) (c : Call) (f : Fault) → state_fault o s c ≡ Some f → number_of f ≤ 13
-state_low o s c f e = grind (arith, nat_tests, e)
-
-argument_low : (o : Option Part) (c : Call) (z : ℕ) (f : Fault) → argument_fault o c z ≡ Some f → number_of f ≤ 13
-argument_low o c z f e = grind (arith, nat_tests, e)
-
-unfit_low : (p : Page) (k : BlockRecord) (f : Fault) → unfit p k ≡ Some f → number_of f ≤ 13
-unfit_low p k f e = grind (arith, nat_tests, e)
-
-unready_low : (p : Page) (chain : Bool) (n : ℕ) (ps : Pages) (f : Fault) → unready p chain n ps ≡ Some f → number_of f ≤ 13
-unready_low p chain n ps f e = grind (arith, nat_tests, e)
-
-program_low : (o : Option Part) (ks : List BlockRecord) (p : Page) (chain : Bool) (f : Fault) → program_fault o ks p chain ≡ Some f → number_of f ≤ 13
-program_low o ks p chain f e =
-    ⊎_elim (unfit_low p (get_or ks p.block first_record) f) (unready_low p chain (allowed_in o) (get_or ks p.block first_record).pages f)
-    (or_some (unfit p (get_or ks p.block first_record)) (unready p chain (allowed_in o) (get_or ks p.block first_record).pages) f e)
-
-record_low : (o : Option Part) (ks : List BlockRecord) (c : Call) (f : Fault) → record_fault o ks c ≡ Some f → number_of f ≤ 13
-record_low o ks call.Identify f e = absurd (some_none (sym e))
-record_low o ks (call.Look p) f e = absurd (some_none (sym e))
-record_low o ks call.Close f e = absurd (some_none (sym e))
-record_low o ks (call.Read p c len) f e = absurd (some_none (sym e))
-record_low o ks (call.Erase b) f e = unfit_low (block_page b) (get_or ks b first_record) f e
-record_low o ks (call.Program p c) f e = program_low o ks p false f e
-record_low o ks (call.CacheFirst p c) f e = program_low o ks p false f e
-record_low o ks (call.CacheNext n g c) f e = program_low o ks (chain_page n g) true f e
-record_low o ks (call.CacheLast n g c) f e = program_low o ks (chain_page n g) true f e
-record_low o ks (call.Copy p q) f e = program_low o ks q false f e
-record_low o ks (call.Settle n) f e = absurd (some_none (sym e))
-record_low o ks (call.Abandon n) f e = absurd (some_none (sym e))
-record_low o ks call.Reset f e = absurd (some_none (sym e))
-record_low o ks (call.Pick b) f e = absurd (some_none (sym e))
-record_low o ks (call.Record b) f e = absurd (some_none (sym e))
-
-port_low : (room need : ℕ) (p : Option Page) (f : Fault) → port_fault room need p ≡ Some f → number_of f ≤ 13
-port_low room need p f e = grind (arith, nat_tests, e)
-
-refusal_low : (v : View) (room : ℕ) (c : Call) (z : ℕ) (f : Fault) → refusal v room c z ≡ Some f → number_of f ≤ 13
-unfolding refusal
-refusal_low v room c z f e =
-    ⊎_elim (state_low v.part v.standing c f)
-    (λ x. ⊎_elim (argument_low v.part c z f)
-    (λ y. ⊎_elim (record_low v.part v.blocks c f) (port_low room (most v.part v.polls c z) (page_named c) f)
-    (or_some (record_fault v.part v.blocks c) _ f y))
-    (or_some (argument_fault v.part c z) _ f x))
-    (or_some (state_fault v.part v.standing c) _ f e)
 
 -- ## A call refused before the chip: no slip moves, and all stands
 
@@ -235,7 +180,7 @@ accepted_moves v (call.Record b) rs e = record { stands = refl; slips = omega ar
 
 moves_at : (o : Option Fault) (v : View) (room : ℕ) (c : Call) (z : ℕ) (rs : List ℕ) → refusal v room c z ≡ o → Moves v c (outcome_at o v c rs)
 unfolding refusal
-moves_at (Some f) v room c z rs e = let l = refusal_low v room c z f e in record { stands = refused_stays v.standing c f l; slips = refused_balance (out_of v.standing) c f l }
+moves_at (Some f) v room c z rs e = let l = (of_reason 1 13 (refusal_within v room c z) e).1 in record { stands = refused_stays v.standing c f l; slips = refused_balance (out_of v.standing) c f l }
 moves_at None v room c z rs e = accepted_moves v c rs (or_none (state_fault v.part v.standing c) _ e).0
 
 module _ (v : View) (room : ℕ) (c : Call) (z : ℕ) (rs : List ℕ) where

@@ -3,9 +3,7 @@ use Rattle.std.proofs.Common.{◌≡◌, ℕ, List, [], ◌∷◌, ◌++◌, map
 use mathlib.Core.List.{foldl, foldl-append, map-append}
 use Rattle.flash.specs.Records.{first_record}
 use Rattle.bus.specs.Bus.{first}
-use Rattle.bus.specs.declared.state.Busy.TheVariants as busy
 use Rattle.bus.specs.declared.state.Phase.TheVariants as phase
-use Rattle.bus.specs.declared.state.Register.TheVariants as register
 use Rattle.port.specs.declared.port.Port.{Ghosts}
 use Rattle.calls.specs.declared.call.Call.{Call}
 use Rattle.driver.specs.Called.{view_of}
@@ -39,7 +37,7 @@ abbrev pub opened_view : ℕ → View
 opened_view n = record { part = None; polls = n; blocks = replicate 2048 first_record; standing = standing.Ready }
 
 opened_held : {n : ℕ} → Held (opened_view n) first
-opened_held = record { phase = phase.Quiet; busy = busy.Nothing; register = register.Empty; chain = None; calm = refl; works = (refl, refl); is = refl }
+opened_held = record { phase = phase.Quiet; busy = None; register = None; chain = None; calm = refl; works = (refl, refl); is = refl }
 
 module _ {X : Type 0} {p : Ghosts X} (n : ℕ) (a : X) where
   pub following_none : (s : Session X) → s.port ≡ a → view_of s ≡ opened_view n → (p.meaning a).reader ≡ first → Following p n [] [] a surveying s

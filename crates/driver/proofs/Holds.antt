@@ -11,9 +11,9 @@ use Rattle.bus.specs.Bus.{Reader}
 use Rattle.bus.specs.States.{blocks_in, quiet, idle, closed, work_of}
 use Rattle.bus.specs.Acts.{in_chain}
 use Rattle.bus.specs.declared.state.Phase.{Phase}
-use Rattle.bus.specs.declared.state.Busy.{Busy}
-use Rattle.bus.specs.declared.state.Busy.TheVariants as busy
-use Rattle.bus.specs.declared.state.Register.{Register}
+use Rattle.bus.specs.declared.state.Work.{Work}
+use Rattle.bus.specs.declared.state.Work.TheVariants as work
+use Rattle.bus.specs.declared.state.PageRead.{PageRead}
 use Rattle.record.specs.Judgements.{or_else}
 use Rattle.calls.specs.Table.{chain_page}
 use Rattle.calls.specs.Told.{InPart, Span, Fits, Rests, Chains, Begins}
@@ -27,22 +27,22 @@ use Rattle.driver.specs.declared.standing.Standing.TheVariants as standing
 
 -- ## The reader of a view
 
-abbrev pub reader_at : View → Phase → Busy → Register → Option ℕ → Reader
+abbrev pub reader_at : View → Phase → Option Work → Option PageRead → Option ℕ → Reader
 reader_at v h b g k = record { bus = record { part = v.part; phase = h; busy = b; register = g; chain = k; breaches = 0 }; blocks = v.blocks }
 
 -- what is busy, and the chain, by the standing
-abbrev pub Works : Option Part → Standing → Busy → Option ℕ → Type 0
-Works o standing.Ready b k = (b ≡ busy.Nothing) × (k ≡ None)
+abbrev pub Works : Option Part → Standing → Option Work → Option ℕ → Type 0
+Works o standing.Ready b k = (b ≡ None) × (k ≡ None)
 Works o standing.Stuck b k = (work_of b None ≡ None) × (k ≡ None)
-Works o (standing.Erasing x) b k = (b ≡ busy.Erase x) × (k ≡ None)
-Works o (standing.Programming p) b k = b ≡ busy.Program p.block
-Works o (standing.Chaining p) b k = (b ≡ busy.CachePage) × (k ≡ Some p.block) × InPart o p
+Works o (standing.Erasing x) b k = (b ≡ Some (work.Erase x)) × (k ≡ None)
+Works o (standing.Programming p) b k = b ≡ Some (work.Program p.block)
+Works o (standing.Chaining p) b k = (b ≡ Some work.CachePage) × (k ≡ Some p.block) × InPart o p
 
 -- the reader is the view's, with no breach; only what is busy in a stuck session, register and a quiet phase are free
 pub record Held (v : View) (r : Reader) : Type 0 where
   pub phase : Phase
-  pub busy : Busy
-  pub register : Register
+  pub busy : Option Work
+  pub register : Option PageRead
   pub chain : Option ℕ
   pub calm : quiet phase ≡ true
   pub works : Works v.part v.standing busy chain
@@ -139,7 +139,7 @@ rests v r k e =
       closed = ap (λ (q : Reader). closed q.bus.chain) k.is ∙ ap closed w.1;
     }
 
-chains_by : (s : Standing) (o : Option Part) (b : Busy) (k : Option ℕ) (n g : ℕ) → Works o s b k → slip_fault s n (views.in_chain s) ≡ None → g < 64 → in_chain k (row_at (chain_page n g)) ≡ true
+chains_by : (s : Standing) (o : Option Part) (b : Option Work) (k : Option ℕ) (n g : ℕ) → Works o s b k → slip_fault s n (views.in_chain s) ≡ None → g < 64 → in_chain k (row_at (chain_page n g)) ≡ true
 chains_by standing.Ready o b k n g w e l = absurd (grind (arith, (slip_out_lem standing.Ready n false e).1))
 chains_by standing.Stuck o b k n g w e l = absurd (some_none e)
 chains_by (standing.Erasing x) o b k n g w e l = absurd (grind (arith, (slip_out_lem (standing.Erasing x) n false e).1))

@@ -35,23 +35,23 @@ module _ (o : Option Part) (n : ℕ) where
       reset_with ss = command op.Reset ∷ command op.ReadStatus ∷ map gave ss
 
 module _ {X : Type 0} {p : Ghosts X} {s : Session X} (k : Passed p s call.Identify []) where
-  pub identity_late : {at : Option Page} {f : Fault} {b : X} → Stopped p s.polls at (reset_cycles s.polls) f s.port b
-      → Stopped p s.polls at (cycles s.part s.polls call.Identify []) f s.port b
+  pub identity_late : {at : Option Page} {f : Fault} {b : X} → Stopped p s.state.polls at (reset_cycles s.state.polls) f s.port b
+      → Stopped p s.state.polls at (cycles s.state.part s.state.polls call.Identify []) f s.port b
   identity_late t =
-      stopped_before (λ rs. once_ready (polled s.polls rs) (identity_cycles (left s.polls rs))) (λ rs e. ap (λ x. once_ready x (identity_cycles (left s.polls rs))) e) t
+      stopped_before (λ rs. once_ready (polled s.state.polls rs) (identity_cycles (left s.state.polls rs))) (λ rs e. ap (λ x. once_ready x (identity_cycles (left s.state.polls rs))) e) t
 
-  module _ {G : List ℕ → Type 0} {b : X} (w : Went p s.polls (reset_cycles s.polls) G s.port b) where
+  module _ {G : List ℕ → Type 0} {b : X} (w : Went p s.state.polls (reset_cycles s.state.polls) G s.port b) where
     pub identity_cut : {d : X} → Short p identity_cycles b d → ⊥
-    identity_cut t = never_cut k (taken s.polls w.replies ++ t.replies) (identity_whole s.part s.polls w.replies t.replies w.ready) (cut_later w.ran t.cut)
+    identity_cut t = never_cut k (taken s.state.polls w.replies ++ t.replies) (identity_whole s.state.part s.state.polls w.replies t.replies w.ready) (cut_later w.ran t.cut)
 
     pub identity_came : (bs : List ℕ) {a : Reply} {t : Session X} (x : Option Part) → length bs ≡ 5 → x ≡ identified bs
         → a ≡ (named (view_of s) bs x).reply → view_of t ≡ (named (view_of s) bs x).view → Ran p (identity_cycles bs) b t.port → Called p call.Identify [] a s t
     identity_came bs {a} {t} x h i j l r =
-        let n = s.polls in
+        let n = s.state.polls in
         let rs = taken n w.replies ++ bs in
         let same = same_poll n w.replies bs w.ready in
         let q = some_is (polled n w.replies) w.ready in
         let read = ap (first_of 5) same.leaves ∙ first_all 5 bs h in
         let e = ap (λ ys. identified_by (view_of s) ys (polled n rs)) read ∙ ap (λ y. identified_by (view_of s) bs y) (same.ends ∙ q.1) ∙ ap (λ y. named (view_of s) bs y) (sym i) in
         called_accepted k rs (j ∙ sym (ap (λ y. y.reply) e)) (l ∙ sym (ap (λ y. y.view) e))
-        (ran_as (identity_whole s.part n w.replies bs w.ready) (ran_append w.ran r))
+        (ran_as (identity_whole s.state.part n w.replies bs w.ready) (ran_append w.ran r))

@@ -1,7 +1,8 @@
 -- A call is turned away at the record exactly when the reader would count a breach.
-use Rattle.std.proofs.Common.{◌≡◌, ℕ, ◌+◌, ◌*◌, ◌/◌, ◌%◌, min, Bool, true, false, cond, not, ◌&&◌, ltb, ◌⊎◌, List, [], ◌∷◌, length, get_or, Some, None, Option, sym, refl, ap, ◌∙◌, subst, inl, inr, ⊎_elim, arith}
+use Rattle.std.proofs.Common.{◌≡◌, ℕ, ◌+◌, ◌*◌, ◌/◌, ◌%◌, ◌≤◌, leb, min, Bool, true, false, cond, not, ◌&&◌, ltb, ◌⊎◌, List, [], ◌∷◌, length, get_or, Some, None, Option, sym, refl, ap, ◌∙◌, subst, inl, inr, ⊎_elim, arith}
 use Rattle.std.proofs.lemmas.Bool.Decides.{nat_tests}
 use Rattle.flash.specs.Addresses.{row_at}
+use Rattle.flash.specs.Faults.{number_of}
 use Rattle.flash.specs.Records.{first_record, fit, out_of_order, programmed_out}
 use Rattle.flash.specs.declared.address.Column.{Column}
 use Rattle.flash.specs.declared.fault.Fault.{Fault}
@@ -16,19 +17,15 @@ use Rattle.bus.specs.declared.act.Confirm.{Confirm}
 use Rattle.bus.specs.declared.act.Confirm.TheVariants as confirm
 use Rattle.bus.specs.declared.state.Phase.{Phase}
 use Rattle.bus.specs.declared.state.Phase.TheVariants as phase
-use Rattle.bus.specs.declared.state.Busy.{Busy}
-use Rattle.bus.specs.declared.state.Busy.TheVariants as busy
-use Rattle.bus.specs.declared.state.Register.{Register}
-use Rattle.bus.specs.declared.state.Register.TheVariants as register
+use Rattle.bus.specs.declared.state.Work.{Work}
+use Rattle.bus.specs.declared.state.PageRead.{PageRead}
 use Rattle.record.specs.Judgements.{or_else, unfit, unready}
 use Rattle.calls.specs.Table.{chain_page, most}
 use Rattle.calls.specs.Told.{InPart, Fits}
 use Rattle.calls.specs.declared.call.Call.{Call}
 use Rattle.calls.specs.declared.call.Call.TheVariants as call
-use Rattle.driver.specs.Views.{View, block_page, erase_slip, program_slip, chain_slip, slip_out, block_at_work, is_stuck}
-use Rattle.driver.specs.Views as views
-use Rattle.driver.specs.Refusals.{free_fault, slip_fault, state_fault, page_fault, page_span_fault, argument_fault, program_fault, record_fault, port_fault, refusal, page_named}
-use Rattle.driver.specs.declared.standing.Standing.{Standing}
+use Rattle.driver.specs.Views.{View, block_page}
+use Rattle.driver.specs.Refusals.{state_fault, argument_fault, program_fault, record_fault, port_fault, refusal, page_named}
 use Rattle.bus.specs.Breaches.{one}
 use Rattle.commands.specs.Polls.{polled}
 use Rattle.commands.specs.Sequences.{first_column}
@@ -37,7 +34,8 @@ use Rattle.calls.specs.Table.{block_row, ready_cycles}
 use Rattle.calls.proofs.Theorems.{call_leaves}
 use Rattle.driver.specs.Laws.{early, at_record, judged, Exact}
 use Rattle.driver.specs.Outcomes.{refused, next_by, last_by, copied_by, accepted, outcome_at, outcome}
-use Rattle.driver.proofs.Holds.{reader_at, Held, some_none, fits, begins}
+use Rattle.driver.proofs.Holds.{reader_at, Held, fits, begins}
+use Rattle.driver.proofs.Reasons.{of_reason, state_within, argument_within, record_within}
 use Rattle.driver.proofs.Keeps.{row_block, row_page, kept, resting, in_chain_by, polled_cache, opened}
 
 -- ## Blame
@@ -75,7 +73,7 @@ program_blamed o ks p chain f e =
     (or_some (unfit p (get_or ks p.block first_record)) (unready p chain (allowed_in o) (get_or ks p.block first_record).pages) f e)
 
 -- the breaches after a confirm that the record would have turned away
-module _ (v : View) (h : Phase) (b : Busy) (g : Register) (k : Option ℕ) where
+module _ (v : View) (h : Phase) (b : Option Work) (g : Option PageRead) (k : Option ℕ) where
   erase_counted : (x : ℕ) (f : Fault) → record_fault v.part v.blocks (call.Erase x) ≡ Some f → ltb 0 (after_erase (block_row x) (reader_at v h b g k)).bus.breaches ≡ true
   erase_counted x f e =
       let q : fit (get_or v.blocks x first_record) ≡ false = unfit_blamed (block_page x) (get_or v.blocks x first_record) f e in
@@ -101,62 +99,35 @@ module _ (v : View) (h : Phase) (b : Busy) (g : Register) (k : Option ℕ) where
 
 -- ## Faults by their places
 
-free_early : (s : Standing) (f : Fault) → free_fault s ≡ Some f → early (refused f) ≡ true
-free_early s f e = grind (arith, e)
+-- a place by the number of the refusal
+place_is : (f : Fault) → (early (refused f) ≡ leb (number_of f) 7) × (at_record (refused f) ≡ (leb 8 (number_of f) && leb (number_of f) 12))
+place_is fault.Stuck = (refl, refl)
+place_is fault.SlipOut = (refl, refl)
+place_is fault.WrongSlip = (refl, refl)
+place_is fault.Identified = (refl, refl)
+place_is (fault.NoSuchBlock b) = (refl, refl)
+place_is (fault.NoSuchPage p) = (refl, refl)
+place_is (fault.NoSuchSpan p) = (refl, refl)
+place_is (fault.MarkUnread p) = (refl, refl)
+place_is (fault.UnfitBlock p) = (refl, refl)
+place_is (fault.StaleBlock p) = (refl, refl)
+place_is (fault.PageOrder p) = (refl, refl)
+place_is (fault.TooManyPrograms p) = (refl, refl)
+place_is (fault.NoRoom p) = (refl, refl)
+place_is (fault.Timeout p) = (refl, refl)
+place_is fault.UnknownPart = (refl, refl)
+place_is (fault.WorkFailed p) = (refl, refl)
+place_is (fault.WorkProtected p) = (refl, refl)
 
-slip_early : (s : Standing) (n : ℕ) (kind : Bool) (f : Fault) → slip_fault s n kind ≡ Some f → early (refused f) ≡ true
-slip_early s n kind f e = grind (arith, nat_tests, e)
+early_by : (f : Fault) → number_of f ≤ 7 → early (refused f) ≡ true
+early_by f l = let e : leb (number_of f) 7 ≡ true = grind (arith, l) in (place_is f).0 ∙ e
 
-state_early : (o : Option Part) (s : Standing) (c : Call) (f : Fault) → judged c ≡ true → state_fault o s c ≡ Some f → early (refused f) ≡ true
-state_early o s call.Identify f j e = absurd (grind (arith, j))
-state_early o s (call.Look p) f j e = absurd (grind (arith, j))
-state_early o s call.Close f j e = absurd (grind (arith, j))
-state_early o s (call.Read p c len) f j e = absurd (grind (arith, j))
-state_early o s (call.Erase b) f j e = free_early s f e
-state_early o s (call.Program p c) f j e = free_early s f e
-state_early o s (call.CacheFirst p c) f j e = free_early s f e
-state_early o s (call.CacheNext n g c) f j e = slip_early s n (views.in_chain s) f e
-state_early o s (call.CacheLast n g c) f j e = slip_early s n (views.in_chain s) f e
-state_early o s (call.Copy p q) f j e = free_early s f e
-state_early o s (call.Settle n) f j e = absurd (grind (arith, j))
-state_early o s (call.Abandon n) f j e = absurd (grind (arith, j))
-state_early o s call.Reset f j e = absurd (grind (arith, j))
-state_early o s (call.Pick b) f j e = absurd (grind (arith, j))
-state_early o s (call.Record b) f j e = absurd (grind (arith, j))
-
-page_early : (o : Option Part) (l : ℕ) (p : Page) (f : Fault) → page_fault o l p ≡ Some f → early (refused f) ≡ true
-page_early o l p f e = grind (arith, nat_tests, e)
-
-span_early : (o : Option Part) (p : Page) (c : Column) (z : ℕ) (f : Fault) → page_span_fault o p c z ≡ Some f → early (refused f) ≡ true
-span_early o p c z f e = grind (arith, nat_tests, e)
-
-argument_early : (o : Option Part) (c : Call) (z : ℕ) (f : Fault) → argument_fault o c z ≡ Some f → early (refused f) ≡ true
-argument_early o call.Identify z f e = absurd (some_none (sym e))
-argument_early o (call.Look p) z f e = page_early o 2 p f e
-argument_early o call.Close z f e = absurd (some_none (sym e))
-argument_early o (call.Read p c len) z f e = span_early o p c len f e
-argument_early o (call.Erase b) z f e = grind (arith, nat_tests, e)
-argument_early o (call.Program p c) z f e = span_early o p c z f e
-argument_early o (call.CacheFirst p c) z f e = span_early o p c z f e
-argument_early o (call.CacheNext n g c) z f e = span_early o (chain_page n g) c z f e
-argument_early o (call.CacheLast n g c) z f e = span_early o (chain_page n g) c z f e
-argument_early o (call.Copy p q) z f e = ⊎_elim (page_early o 64 p f) (page_early o 64 q f) (or_some (page_fault o 64 p) (page_fault o 64 q) f e)
-argument_early o (call.Settle n) z f e = absurd (some_none (sym e))
-argument_early o (call.Abandon n) z f e = absurd (some_none (sym e))
-argument_early o call.Reset z f e = absurd (some_none (sym e))
-argument_early o (call.Pick b) z f e = absurd (some_none (sym e))
-argument_early o (call.Record b) z f e = grind (arith, nat_tests, e)
-
-unfit_at : (p : Page) (k : BlockRecord) (f : Fault) → unfit p k ≡ Some f → at_record (refused f) ≡ true
-unfit_at p k f e = grind (arith, nat_tests, e)
-
-unready_at : (p : Page) (chain : Bool) (n : ℕ) (ps : Pages) (f : Fault) → unready p chain n ps ≡ Some f → at_record (refused f) ≡ true
-unready_at p chain n ps f e = grind (arith, nat_tests, e)
-
-program_at : (o : Option Part) (ks : List BlockRecord) (p : Page) (chain : Bool) (f : Fault) → program_fault o ks p chain ≡ Some f → at_record (refused f) ≡ true
-program_at o ks p chain f e =
-    ⊎_elim (unfit_at p (get_or ks p.block first_record) f) (unready_at p chain (allowed_in o) (get_or ks p.block first_record).pages f)
-    (or_some (unfit p (get_or ks p.block first_record)) (unready p chain (allowed_in o) (get_or ks p.block first_record).pages) f e)
+record_at : (v : View) (c : Call) (f : Fault) → record_fault v.part v.blocks c ≡ Some f → at_record (refused f) ≡ true
+record_at v c f e =
+    let w = of_reason 8 12 (record_within v.part v.blocks c) e in
+    let x : leb 8 (number_of f) ≡ true = grind (arith, w.0) in
+    let y : leb (number_of f) 12 ≡ true = grind (arith, w.1) in
+    (place_is f).1 ∙ (ap (λ b. b && leb (number_of f) 12) x ∙ y)
 
 -- ## Every call that works on a block
 
@@ -165,43 +136,31 @@ ready_replies = 0xC0 ∷ []
 
 module _ (v : View) (r : Reader) (k : Held v r) where
   counted : (c : Call) (bs : List ℕ) (f : Fault) → judged c ≡ true → state_fault v.part v.standing c ≡ None → Fits v.part c (length bs) → record_fault v.part v.blocks c ≡ Some f
-      → (at_record (refused f) ≡ true) × (ltb 0 (after 1 c bs ready_replies r).bus.breaches ≡ true)
+      → ltb 0 (after 1 c bs ready_replies r).bus.breaches ≡ true
   counted call.Identify bs f j e i q = absurd (grind (arith, j))
   counted (call.Look p) bs f j e i q = absurd (grind (arith, j))
   counted call.Close bs f j e i q = absurd (grind (arith, j))
   counted (call.Read p c len) bs f j e i q = absurd (grind (arith, j))
-  counted (call.Erase b) bs f j e i q = (
-    unfit_at (block_page b) (get_or v.blocks b first_record) f q,
-    ap (λ x. ltb 0 (after 1 (call.Erase b) bs ready_replies x).bus.breaches) (resting v r k e) ∙ erase_counted v k.phase busy.Nothing k.register None b f q,
-  )
-  counted (call.Program p c) bs f j e i q = (
-    program_at v.part v.blocks p false f q,
-    ap (λ x. ltb 0 (after 1 (call.Program p c) bs ready_replies x).bus.breaches) (resting v r k e) ∙ program_counted v k.phase busy.Nothing k.register None p c confirm.Program f i.0 q,
-  )
-  counted (call.CacheFirst p c) bs f j e i q = (
-    program_at v.part v.blocks p false f q,
-    ap (λ x. ltb 0 (after 1 (call.CacheFirst p c) bs ready_replies x).bus.breaches) (resting v r k e) ∙ program_counted v k.phase busy.Nothing k.register None p c confirm.Cache f i.0 q,
-  )
+  counted (call.Erase b) bs f j e i q =
+      ap (λ x. ltb 0 (after 1 (call.Erase b) bs ready_replies x).bus.breaches) (resting v r k e) ∙ erase_counted v k.phase None k.register None b f q
+  counted (call.Program p c) bs f j e i q =
+      ap (λ x. ltb 0 (after 1 (call.Program p c) bs ready_replies x).bus.breaches) (resting v r k e) ∙ program_counted v k.phase None k.register None p c confirm.Program f i.0 q
+  counted (call.CacheFirst p c) bs f j e i q =
+      ap (λ x. ltb 0 (after 1 (call.CacheFirst p c) bs ready_replies x).bus.breaches) (resting v r k e) ∙ program_counted v k.phase None k.register None p c confirm.Cache f i.0 q
   counted (call.CacheNext n g c) bs f j e i q =
-      let x = in_chain_by v r k n v.standing refl k.works e in (
-        program_at v.part v.blocks (chain_page n g) true f q,
-        ap (λ y. ltb 0 (after 1 (call.CacheNext n g c) bs ready_replies y).bus.breaches) x.at
-            ∙ (ap (λ y. ltb 0 (after_program (row_at (chain_page n g)) c confirm.Cache y).bus.breaches) (polled_cache v k.phase k.register 0xC0 refl (Some x.page.block))
-            ∙ program_counted v phase.Status busy.Nothing k.register (Some x.page.block) (chain_page n g) c confirm.Cache f i.0 q),
-      )
+      let x = in_chain_by v r k n v.standing refl k.works e in
+      ap (λ y. ltb 0 (after 1 (call.CacheNext n g c) bs ready_replies y).bus.breaches) x.at
+      ∙ (ap (λ y. ltb 0 (after_program (row_at (chain_page n g)) c confirm.Cache y).bus.breaches) (polled_cache v k.phase k.register 0xC0 refl (Some x.page.block))
+      ∙ program_counted v phase.Status None k.register (Some x.page.block) (chain_page n g) c confirm.Cache f i.0 q)
   counted (call.CacheLast n g c) bs f j e i q =
-      let x = in_chain_by v r k n v.standing refl k.works e in (
-        program_at v.part v.blocks (chain_page n g) true f q,
-        ap (λ y. ltb 0 (after 1 (call.CacheLast n g c) bs ready_replies y).bus.breaches) x.at
-            ∙ (ap (λ y. ltb 0 (after_program (row_at (chain_page n g)) c confirm.Program y).bus.breaches) (polled_cache v k.phase k.register 0xC0 refl (Some x.page.block))
-            ∙ program_counted v phase.Status busy.Nothing k.register (Some x.page.block) (chain_page n g) c confirm.Program f i.0 q),
-      )
-  counted (call.Copy p t) bs f j e i q = (
-    program_at v.part v.blocks t false f q,
-    ap (λ x. ltb 0 (after 1 (call.Copy p t) bs ready_replies x).bus.breaches) (resting v r k e)
-        ∙ (ap (λ y. ltb 0 (after_program (row_at t) first_column confirm.Copy y).bus.breaches) (opened v k.phase k.register (row_at p) first_column true 0xC0 refl)
-        ∙ program_counted v phase.Status busy.Nothing (register.Full (row_at p) first_column true) None t first_column confirm.Copy f i.1 q),
-  )
+      let x = in_chain_by v r k n v.standing refl k.works e in
+      ap (λ y. ltb 0 (after 1 (call.CacheLast n g c) bs ready_replies y).bus.breaches) x.at
+      ∙ (ap (λ y. ltb 0 (after_program (row_at (chain_page n g)) c confirm.Program y).bus.breaches) (polled_cache v k.phase k.register 0xC0 refl (Some x.page.block))
+      ∙ program_counted v phase.Status None k.register (Some x.page.block) (chain_page n g) c confirm.Program f i.0 q)
+  counted (call.Copy p t) bs f j e i q =
+      ap (λ x. ltb 0 (after 1 (call.Copy p t) bs ready_replies x).bus.breaches) (resting v r k e)
+      ∙ (ap (λ y. ltb 0 (after_program (row_at t) first_column confirm.Copy y).bus.breaches) (opened v k.phase k.register (row_at p) first_column true 0xC0 refl)
+      ∙ program_counted v phase.Status None (Some (record { row = (row_at p); column = first_column; copy = true })) None t first_column confirm.Copy f i.1 q)
   counted (call.Settle n) bs f j e i q = absurd (grind (arith, j))
   counted (call.Abandon n) bs f j e i q = absurd (grind (arith, j))
   counted call.Reset bs f j e i q = absurd (grind (arith, j))
@@ -269,12 +228,12 @@ module _ (v : View) (r : Reader) (k : Held v r) (c : Call) (bs rs : List ℕ) (j
 
   exact_by : (s a q d : Option Fault) → state_fault v.part v.standing c ≡ s → argument_fault v.part c (length bs) ≡ a → record_fault v.part v.blocks c ≡ q
       → port_fault room (most v.part v.polls c (length bs)) (page_named c) ≡ d → Exactly (or_else s (or_else a (or_else q d)))
-  exact_by (Some f) a q d e i x y n = absurd (not_early f (state_early v.part v.standing c f j e) n)
-  exact_by None (Some f) q d e i x y n = absurd (not_early f (argument_early v.part c (length bs) f i) n)
+  exact_by (Some f) a q d e i x y n = absurd (not_early f (early_by f (omega (arith, (of_reason 1 4 (state_within v.part v.standing c) e).1))) n)
+  exact_by None (Some f) q d e i x y n = absurd (not_early f (early_by f (of_reason 5 7 (argument_within v.part c (length bs)) i).1) n)
   exact_by None None (Some f) d e i x y n =
       let t = fits v.part c (length bs) i in
       let w = counted v r k c bs f j e t x in
-      w.0 ∙ sym (ap (λ (z : Reader). ltb 0 z.bus.breaches) (ready_steps e t) ∙ w.1)
+      record_at v c f x ∙ sym (ap (λ (z : Reader). ltb 0 z.bus.breaches) (ready_steps e t) ∙ w)
   exact_by None None None (Some f) e i x y n =
       let t = fits v.part c (length bs) i in
       room_at (ltb room (most v.part v.polls c (length bs))) (page_named c) f y ∙ sym (ap (λ (z : Reader). ltb 0 z.bus.breaches) (ready_steps e t) ∙ uncounted v r k c bs e t x)

@@ -1,5 +1,5 @@
 -- A read of more than a page is refused alike, whatever its length.
-use Rattle.std.proofs.Common.{◌≡◌, ℕ, ◌≤◌, min, List, [], ◌++◌, length, take, drop, Some, None, Option, sym, refl, ap, ◌∙◌, subst, ⊎_elim, arith}
+use Rattle.std.proofs.Common.{◌≡◌, ℕ, ◌≤◌, min, List, [], ◌++◌, length, take, drop, Some, None, Option, Ok, Err, Result, sym, refl, ap, ◌∙◌, subst, ⊎_elim, arith}
 use Rattle.std.proofs.lemmas.List.{take_at}
 use Rattle.std.proofs.lemmas.Bool.{cases_lt}
 use Rattle.std.proofs.lemmas.Bool.Decides.{nat_tests}
@@ -11,8 +11,8 @@ use Rattle.port.specs.declared.port.Port.{Ghosts}
 use Rattle.record.specs.Judgements.{or_else}
 use Rattle.calls.specs.declared.call.Call.TheVariants as call
 use Rattle.commands.specs.Sent.{Ran}
-use Rattle.driver.specs.Called.{view_of, Called}
-use Rattle.driver.specs.Outcomes.{Reply, bytes, outcome_at, cycles_at}
+use Rattle.driver.specs.Called.{view_of, Called, read_reply}
+use Rattle.driver.specs.Outcomes.{Reply, bytes, refused, outcome_at, cycles_at}
 use Rattle.driver.specs.Refusals.{state_fault, page_fault, span_fault, refusal}
 use Rattle.driver.specs.Views.{View}
 use Rattle.driver.specs.declared.session.Session.{Session}
@@ -66,3 +66,9 @@ pub read_took : {X : Type 0} {q : Ghosts X} (s t : Session X) (p : Page) (c : Co
     → Called q (call.Read p c len) [] (bytes (take m (xs ++ drop (length xs) items))) s t
 read_took {X} {q} s t p c len n m xs items e l d =
     subst (λ ys. Called q (call.Read p c len) [] (bytes ys) s t) (sym (take_at xs (drop (length xs) items) m l)) (read_as s t (bytes xs) p c len n e d)
+
+-- what it answers
+pub read_answers : {X : Type 0} {q : Ghosts X} (s t : Session X) (r : Result Unit Fault) (p : Page) (c : Column) (len n m : ℕ) (xs items : List ℕ) → n ≡ min len 2113 → length xs ≡ m → Called q (call.Read p c n) [] (read_reply r xs) s t
+    → Called q (call.Read p c len) [] (read_reply r (take m (xs ++ drop (length xs) items))) s t
+read_answers s t (Ok u) p c len n m xs items e l d = read_took s t p c len n m xs items e l d
+read_answers s t (Err f) p c len n m xs items e l d = read_as s t (refused f) p c len n e d

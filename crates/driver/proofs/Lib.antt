@@ -11,6 +11,7 @@ mod Lengthy
 mod Looks
 mod Marks
 mod Ones
+pub mod Reasons
 mod Runs
 mod Scripting
 mod Spares

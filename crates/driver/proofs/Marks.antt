@@ -10,6 +10,9 @@ use Rattle.bus.specs.Bus.{changed_at}
 use Rattle.bus.specs.States.{blocks_in}
 use Rattle.calls.specs.Afters.{noted}
 use Rattle.driver.specs.Marks.{mark_in, mark_found}
+use Rattle.driver.specs.Outcomes.{leaving, keeping, standing_at}
+use Rattle.driver.specs.Views.{View}
+use Rattle.driver.specs.declared.standing.Standing.TheVariants as standing
 
 module _ (o : Option Part) (w : Row) where
   abbrev found : Option ℕ → List BlockRecord → List BlockRecord
@@ -67,3 +70,8 @@ at_page o p h (Some b) ks =
 
 pub mark_noted : (o : Option Part) (p : Page) → p.page < 64 → (c : ℕ) (bs : List ℕ) (ks : List BlockRecord) → mark_found o p (mark_in c bs) ks ≡ noted o (row_at p) c bs ks
 mark_noted o p h c bs ks = at_page o p h (mark_in c bs) ks ∙ sym (noted_is o (row_at p) c bs ks)
+
+-- the view after a page has come up, with the mark noted
+pub mark_kept : (v : View) (p : Page) (x : Option ℕ) {s n t : View} → s ≡ standing_at v standing.Stuck → n ≡ keeping s (mark_found s.part p x s.blocks) → t ≡ standing_at n standing.Ready
+    → t ≡ leaving v (mark_found v.part p x v.blocks) standing.Ready
+mark_kept v p x e f g = g ∙ ap (λ (y : View). standing_at y standing.Ready) (f ∙ ap (λ (y : View). keeping y (mark_found y.part p x y.blocks)) e)

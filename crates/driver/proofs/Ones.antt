@@ -46,7 +46,7 @@ settle_at : (o : Option Fault) (v : View) (n : ℕ) (rs : List ℕ) → OthersSt
 settle_at (Some f) v n rs = none_changed v.blocks
 settle_at None v n rs = settled_one v (slip_page n) (polled v.polls rs)
 
-pub settle_one : {X : Type 0} {p : Ghosts X} (s t : Session X) (n : ℕ) (a : Reply) → Called p (call.Settle n) [] a s t → OthersStand s.record.blocks t.record.blocks
+pub settle_one : {X : Type 0} {p : Ghosts X} (s t : Session X) (n : ℕ) (a : Reply) → Called p (call.Settle n) [] a s t → OthersStand s.state.blocks t.state.blocks
 settle_one {X} {p} s t n a d =
-    subst (λ ks. OthersStand s.record.blocks ks) (sym (ap (λ (v : View). v.blocks) d.views))
+    subst (λ ks. OthersStand s.state.blocks ks) (sym (ap (λ (v : View). v.blocks) d.views))
     (settle_at (refusal (view_of s) (p.meaning s.port).room (call.Settle n) 0) (view_of s) n d.replies)

@@ -1,5 +1,5 @@
 -- The loop of a run over the steps of a script.
-use Rattle.std.proofs.Common.{◌≡◌, ℕ, ◌+◌, ◌<◌, ◌≤◌, Bool, true, false, List, [], ◌∷◌, ◌++◌, map, length, get_or, take, None, vec_items, MatchBool, Option, sym, refl, ap, ◌∙◌, subst, append_assoc, append-nil, arith}
+use Rattle.std.proofs.Common.{◌≡◌, ℕ, ◌+◌, ◌<◌, ◌≤◌, List, [], ◌∷◌, ◌++◌, map, length, get_or, take, None, vec_items, Option, sym, refl, ap, ◌∙◌, subst, append_assoc, append-nil, arith}
 use mathlib.Core.List.{foldl, map-append}
 use Rattle.std.proofs.lemmas.List.{take_more, length-map, length-take-le, take-map}
 use Rattle.std.proofs.lemmas.Bool.Decides.{nat_tests}
@@ -26,78 +26,67 @@ use Rattle.driver.specs.declared.stage.Stage.TheVariants as stage
 use Rattle.driver.specs.declared.survey.Survey.{Survey}
 use Rattle.driver.proofs.Followings.{Following, opened_view, following_none, following_more}
 
--- i steps were looked at; the calls of a front of them were made, of all while the run is going
-pub record SoFar {X : Type 0} (p : Ghosts X) (n : ℕ) (a : X) (script : List Step) (i : ℕ) (going : Bool) (before after : List Answer) (t : Stage X) : Type 0 where
-  pub count : ℕ
-  pub within : count ≤ length script
-  pub all : going ≡ true → count ≡ i
+-- i steps were made
+pub record SoFar {X : Type 0} (p : Ghosts X) (n : ℕ) (a : X) (script : List Step) (i : ℕ) (before after : List Answer) (t : Stage X) : Type 0 where
+  pub within : i ≤ length script
   pub replies : List turns.Answer
   pub answers : map answer_of after ≡ map answer_of before ++ replies
-  pub following : Following p n (take count (map asked script)) replies a (stage_of t) (session_of t)
+  pub following : Following p n (take i (map asked script)) replies a (stage_of t) (session_of t)
 
-abbrev pub Scripted : {X : Type 0} → Ghosts X → Stage X → List Step → ℕ → Bool → List Answer → List Answer → Stage X → Type 0
-Scripted p s script i going before after t =
-    (n : ℕ) → stage_of s ≡ surveying → view_of (session_of s) ≡ opened_view n → (p.meaning (session_of s).port).reader ≡ first → SoFar p n (session_of s).port script i going before after t
+abbrev pub Scripted : {X : Type 0} → Ghosts X → Stage X → List Step → ℕ → List Answer → List Answer → Stage X → Type 0
+Scripted p s script i before after t =
+    (n : ℕ) → stage_of s ≡ surveying → view_of (session_of s) ≡ opened_view n → (p.meaning (session_of s).port).reader ≡ first → SoFar p n (session_of s).port script i before after t
 
 module _ {X : Type 0} {p : Ghosts X} (s : Stage X) (script : List Step) where
-  pub scripted_none : (before : List Answer) → Scripted p s script 0 true before before s
+  pub scripted_none : (before : List Answer) → Scripted p s script 0 before before s
   scripted_none before n st v f = record {
-    count = 0;
     within = omega arith;
-    all = λ _. refl;
     replies = [];
     answers = sym (append-nil (map answer_of before));
     following = subst (λ z. Following p n [] [] (session_of s).port z (session_of s)) (sym st) (following_none n (session_of s).port (session_of s) refl v f);
   }
 
-  -- one step more
-  module _ (i : ℕ) (going : Bool) (before middle after : List Answer) (t u : Stage X) (h : i < length script) (k : Scripted p s script i going before middle t) where
-    pub scripted_rest : Rested middle after t u → Scripted p s script (i + 1) false before after u
+  module _ (i : ℕ) (before middle after : List Answer) (t u : Stage X) (k : Scripted p s script i before middle t) where
+    -- no memory for a further step
+    pub scripted_rest : Rested middle after t u → Scripted p s script i before after u
     scripted_rest r n st v f =
         let x = k n st v f in
         record {
-          count = x.count;
           within = x.within;
-          all = λ e. absurd (grind (arith, e));
           replies = x.replies;
           answers = ap (map answer_of) r.answers ∙ x.answers;
-          following = subst (λ z. Following p n (take x.count (map asked script)) x.replies (session_of s).port (stage_of z) (session_of z)) (sym r.stage) x.following;
+          following = subst (λ z. Following p n (take i (map asked script)) x.replies (session_of s).port (stage_of z) (session_of z)) (sym r.stage) x.following;
         }
 
-    asks_more : (q : Step) → q ≡ get_or script i q → take (i + 1) (map asked script) ≡ take i (map asked script) ++ asked q ∷ []
-    asks_more q e =
-        take-map asked (i + 1) script
-        ∙ (ap (map asked) (take_more script i q h)
-        ∙ (map-append asked (take i script) (get_or script i q ∷ [])
-        ∙ (ap (λ ys. ys ++ asked (get_or script i q) ∷ []) (sym (take-map asked i script)) ∙ ap (λ y. take i (map asked script) ++ asked y ∷ []) (sym e))))
+    -- one step more
+    module _ (h : i < length script) (q : Step) (e : q ≡ get_or script i q) where
+      asks_more : take (i + 1) (map asked script) ≡ take i (map asked script) ++ asked q ∷ []
+      asks_more =
+          take-map asked (i + 1) script
+          ∙ (ap (map asked) (take_more script i q h)
+          ∙ (map-append asked (take i script) (get_or script i q ∷ [])
+          ∙ (ap (λ ys. ys ++ asked (get_or script i q) ∷ []) (sym (take-map asked i script)) ∙ ap (λ y. take i (map asked script) ++ asked y ∷ []) (sym e))))
 
-    pub scripted_more : (q : Step) → q ≡ get_or script i q → going ≡ true → Made p q middle after t u → Scripted p s script (i + 1) true before after u
-    scripted_more q e on d n st v f =
-        let x = k n st v f in
-        let c : x.count ≡ i = x.all on in
-        record {
-          count = i + 1;
-          within = omega arith;
-          all = λ _. refl;
-          replies = x.replies ++ d.answer ∷ [];
-          answers = d.answers ∙ (ap (λ ys. ys ++ d.answer ∷ []) x.answers ∙ append_assoc (map answer_of before) x.replies (d.answer ∷ []));
-          following = subst (λ qs. Following p n qs (x.replies ++ d.answer ∷ []) (session_of s).port (stage_of u) (session_of u)) (sym (asks_more q e))
-              (subst (λ z. Following p n (take i (map asked script) ++ asked q ∷ []) (x.replies ++ d.answer ∷ []) (session_of s).port z (session_of u)) (sym d.stepped.stage)
-              (following_more n (session_of s).port (session_of t) (session_of u) (subst (λ m. Following p n (take m (map asked script)) x.replies (session_of s).port (stage_of t) (session_of t)) c x.following) q.call (bytes_for q.call (vec_items q.bytes)) d.answer d.stepped.turned));
-        }
-
-    pub scripted_step : (q : Step) (b : Bool) → q ≡ get_or script i q → MatchBool b ((going ≡ true) × Made p q middle after t u) (Rested middle after t u) → Scripted p s script (i + 1) b before after u
-    scripted_step q true e d = scripted_more q e d.0 d.1
-    scripted_step q false e d = scripted_rest d
+      pub scripted_more : Made p q middle after t u → Scripted p s script (i + 1) before after u
+      scripted_more d n st v f =
+          let x = k n st v f in
+          record {
+            within = omega arith;
+            replies = x.replies ++ d.answer ∷ [];
+            answers = d.answers ∙ (ap (λ ys. ys ++ d.answer ∷ []) x.answers ∙ append_assoc (map answer_of before) x.replies (d.answer ∷ []));
+            following = subst (λ qs. Following p n qs (x.replies ++ d.answer ∷ []) (session_of s).port (stage_of u) (session_of u)) (sym asks_more)
+                (subst (λ z. Following p n (take i (map asked script) ++ asked q ∷ []) (x.replies ++ d.answer ∷ []) (session_of s).port z (session_of u)) (sym d.stepped.stage)
+                (following_more n (session_of s).port (session_of t) (session_of u) x.following q.call (bytes_for q.call (vec_items q.bytes)) d.answer d.stepped.turned));
+          }
 
   -- the run is over
-  pub followed : (i : ℕ) (going : Bool) (before after : List Answer) (t : Stage X) (n : ℕ) (a b : X) → Scripted p s script i going before after t
+  pub followed : (i : ℕ) (before after : List Answer) (t : Stage X) (n : ℕ) (a b : X) → Scripted p s script i before after t
       → stage_of s ≡ surveying → view_of (session_of s) ≡ opened_view n → (session_of s).port ≡ a → (p.meaning a).reader ≡ first → b ≡ (session_of t).port → Followed p n script before after a b
-  followed i going before after t n a b k st v e f o =
+  followed i before after t n a b k st v e f o =
       let x = k n st v (ap (λ (y : X). (p.meaning y).reader) e ∙ f) in
       let w = x.following in
-      let m : length w.turns ≡ x.count =
-      (let z : length w.turns ≡ length (map asked_in w.turns) = simp length-map in z) ∙ (ap length w.asked ∙ length-take-le x.count (map asked script) (simp length-map x.within)) in
+      let m : length w.turns ≡ i =
+      (let z : length w.turns ≡ length (map asked_in w.turns) = simp length-map in z) ∙ (ap length w.asked ∙ length-take-le i (map asked script) (simp length-map x.within)) in
       record {
         turns = w.turns;
         asked = w.asked ∙ ap (λ j. take j (map asked script)) (sym m);

@@ -14,7 +14,7 @@ use Rattle.driver.specs.declared.session.Session.{Session}
 use Rattle.driver.specs.declared.slip.Slip.{Slip}
 
 abbrev pub view_of : {P : Type 0} → Session P → View
-view_of s = record { part = s.part; polls = s.polls; blocks = s.record.blocks; standing = s.standing }
+view_of s = s.state
 
 -- for some replies of the chip, the answer and the view are the outcome of them, and their cycles went
 -- over the port, which was x and is y now
@@ -28,6 +28,11 @@ pub record Did {X : Type 0} (p : Ghosts X) (o : List ℕ → Outcome) (cs : List
 abbrev pub Called : {X : Type 0} → Ghosts X → Call → List ℕ → Reply → Session X → Session X → Type 0
 Called p c bs a s t =
     Did p (outcome (view_of s) (p.meaning s.port).room c (length bs)) (call_cycles (view_of s) (p.meaning s.port).room c bs) a (view_of t) s.port t.port
+
+-- a program began with the outcome o
+abbrev pub Begun : Result ℕ Fault → Outcome → View → Type 0
+Begun (Ok n) o v = (slip n ≡ o.reply) × (v ≡ o.view)
+Begun (Err f) o v = Unit {0}
 
 -- results as answers
 abbrev pub unit_reply : Result Unit Fault → Reply

@@ -1,5 +1,5 @@
 -- What a call answers and leaves, for the replies that the chip gives.
-use Rattle.std.specs.Prelude.{ℕ, List, [], length, Some, None, Option, slice_index_or}
+use Rattle.std.specs.Prelude.{ℕ, List, [], ◌++◌, length, Some, None, Option, slice_index_or}
 use Rattle.flash.specs.Addresses.{row_at}
 use Rattle.flash.specs.Parts.{identified}
 use Rattle.flash.specs.Records.{first_record, stale, programmed, program_ended, erase_ended}
@@ -15,10 +15,13 @@ use Rattle.flash.specs.declared.status.Verdict.{Verdict}
 use Rattle.flash.specs.declared.status.Verdict.TheVariants as verdict
 use Rattle.bus.specs.Bus.{changed_at}
 use Rattle.bus.specs.States.{blocks_in, allowed_in}
-use Rattle.commands.specs.Polls.{polled, left, first_of}
+use Rattle.bus.specs.declared.act.Confirm.{Confirm}
+use Rattle.bus.specs.declared.act.Confirm.TheVariants as confirm
+use Rattle.commands.specs.Polls.{polled, left, first_of, poll_cycles}
+use Rattle.commands.specs.Sequences.{program_cycles}
 use Rattle.record.specs.Picks.{picked}
 use Rattle.calls.specs.Afters.{noted}
-use Rattle.calls.specs.Table.{slip_page, chain_page, cycles}
+use Rattle.calls.specs.Table.{slip_page, chain_page, once_ready, cycles}
 use Rattle.calls.specs.declared.call.Call.{Call}
 use Rattle.calls.specs.declared.call.Call.TheVariants as call
 use Rattle.driver.specs.Views.{View, erase_slip, program_slip, chain_slip, block_at_work}
@@ -42,6 +45,9 @@ pub record Outcome : Type 0 where
 
 abbrev pub leaving : View → List BlockRecord → Standing → View
 leaving v ks s = record { part = v.part; polls = v.polls; blocks = ks; standing = s }
+
+abbrev pub keeping : View → List BlockRecord → View
+keeping v ks = leaving v ks v.standing
 
 abbrev pub standing_at : View → Standing → View
 standing_at v s = leaving v v.blocks s
@@ -88,13 +94,31 @@ programming v p = record { reply = slip (program_slip p); view = leaving v (prog
 abbrev pub chaining : View → Page → Outcome
 chaining v p = record { reply = slip (chain_slip p); view = leaving v (programmed_in v p) (standing.Chaining p) }
 
+-- a program by its confirm
+abbrev pub begun : Confirm → View → Page → Outcome
+begun confirm.Program v p = programming v p
+begun confirm.Cache v p = chaining v p
+begun confirm.Copy v p = programming v p
+
+-- a further page of a chain, once the chip is ready for it
+abbrev pub added_by : Confirm → View → Page → Option ℕ → Outcome
+added_by t v p None = still_at v (Some p)
+added_by t v p (Some s) = begun t v p
+
+abbrev pub added_cycles : Confirm → View → Page → Column → List ℕ → List ℕ → List Cycle
+added_cycles t v p c bs rs = poll_cycles v.polls rs ++ once_ready (polled v.polls rs) (program_cycles v.part (row_at p) c bs t)
+
+-- and the call that sends it with this confirm
+abbrev pub chain_call : Confirm → ℕ → ℕ → Column → Call
+chain_call confirm.Program n g c = call.CacheLast n g c
+chain_call confirm.Cache n g c = call.CacheNext n g c
+chain_call confirm.Copy n g c = call.CacheLast n g c
+
 abbrev pub next_by : View → Page → Option ℕ → Outcome
-next_by v p None = still_at v (Some p)
-next_by v p (Some s) = chaining v p
+next_by v p o = added_by confirm.Cache v p o
 
 abbrev pub last_by : View → Page → Option ℕ → Outcome
-last_by v p None = still_at v (Some p)
-last_by v p (Some s) = programming v p
+last_by v p o = added_by confirm.Program v p o
 
 abbrev pub copied_by : View → Page → Page → Option ℕ → Outcome
 copied_by v p q None = stuck_at v (Some p)

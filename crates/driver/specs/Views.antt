@@ -1,10 +1,11 @@
 -- What a session holds, its port aside.
-use Rattle.std.specs.Prelude.{ℕ, ◌+◌, ◌*◌, Bool, true, false, List, Some, None, Option}
-use Rattle.flash.specs.Addresses.{row_at}
+use Rattle.std.specs.Prelude.{ℕ, Bool, true, false, List, Some, None, Option, unwrap_or}
 use Rattle.flash.specs.declared.page.Page.{Page}
 use Rattle.flash.specs.declared.part.Part.{Part}
 use Rattle.flash.specs.declared.part.Part.TheVariants.{OneGbit}
 use Rattle.flash.specs.declared.record.BlockRecord.{BlockRecord}
+use Rattle.calls.specs.Slips.{slip_number}
+use Rattle.calls.specs.declared.slip.SlipKind.TheVariants as kind
 use Rattle.driver.specs.declared.standing.Standing.{Standing}
 use Rattle.driver.specs.declared.standing.Standing.TheVariants as standing
 
@@ -20,13 +21,13 @@ block_page b = record { block = b; page = 0 }
 
 -- the numbers of the slips for an erase, a program and a chain
 abbrev pub erase_slip : ℕ → ℕ
-erase_slip b = 8 * (row_at (block_page b)).number + 1
+erase_slip b = slip_number kind.Erase (block_page b)
 
 abbrev pub program_slip : Page → ℕ
-program_slip p = 8 * (row_at p).number + 2
+program_slip p = slip_number kind.Program p
 
 abbrev pub chain_slip : Page → ℕ
-chain_slip p = 8 * (row_at p).number + 3
+chain_slip p = slip_number kind.Chain p
 
 -- the slip that is out, and the block of its work
 abbrev pub slip_out : Standing → Option ℕ
@@ -35,6 +36,10 @@ slip_out standing.Stuck = None
 slip_out (standing.Erasing b) = Some (erase_slip b)
 slip_out (standing.Programming p) = Some (program_slip p)
 slip_out (standing.Chaining p) = Some (chain_slip p)
+
+-- the number of a slip for this work, or nought
+abbrev pub slip_of : Standing → ℕ
+slip_of s = unwrap_or (slip_out s) 0
 
 abbrev pub block_at_work : Standing → Option ℕ
 block_at_work standing.Ready = None

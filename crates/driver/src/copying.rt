@@ -2,11 +2,10 @@
 ghost use Rattle.std.specs.Prelude.{[]};
 ghost use Rattle.driver.specs.Called.{Called, slip_reply};
 
-use crate::arguments::part_or;
-use crate::keeping::note_program;
 use crate::session::Session;
-use crate::slip::{Slip, program_slip};
+use crate::slip::Slip;
 use crate::standing::Standing;
+use bus::act::Confirm;
 use calls::call::Call;
 use commands::copy::{send_copy_program, send_copy_read};
 use flash::fault::Fault;
@@ -25,14 +24,12 @@ impl<P: Port> Session<P> {
             },
             0,
         )?;
-        self.standing = Standing::Stuck;
-        let part = part_or(self.part);
-        send_copy_read(&mut self.port, part, self.polls, source)?;
+        let part = self.state.part_or();
+        let polls = self.state.polls();
+        self.state.stand(Standing::Stuck);
+        send_copy_read(&mut self.port, part, polls, source)?;
         send_copy_program(&mut self.port, part, destination.row())?;
-        note_program(&mut self.record, self.part, destination);
-        self.standing = Standing::Programming(destination);
-        Ok(Slip {
-            number: program_slip(destination),
-        })
+        let number = self.state.begin_program(destination, Confirm::Copy);
+        Ok(Slip { number })
     }
 }

@@ -12,6 +12,7 @@ use flash::page::Page;
 use flash::record::BlockRecord;
 use port::port::Port;
 
+// Survey and driver are two types, so that a call that a stage does not offer cannot be written.
 pub struct Driver<P: Port> {
     pub(crate) session: Session<P>,
 }
@@ -87,7 +88,7 @@ impl<P: Port> Driver<P> {
     pub fn settle(&mut self, slip: &mut Slip) -> Result<(), Fault>
         ensures called { Called P.Port (Call.Settle slip.old.number) [] (unit_reply result) self.old.session self.new.session }
         ensures slip { slip.new.number ≡ spent_if (settle_takes (unit_reply result)) slip.old.number }
-        ensures others { OthersStand self.old.session.record.blocks self.new.session.record.blocks }
+        ensures others { OthersStand self.old.session.state.blocks self.new.session.state.blocks }
     {
         self.session.settle(slip)
     }
@@ -125,15 +126,10 @@ impl<P: Port> Driver<P> {
     pub fn quit(self, slip: Slip) -> P
         ensures { result ≡ self.session.port }
     {
-        slip.discard();
+        slip.spend();
+        // A driver and a session are linear: they are taken apart whole, not read at a field.
         let Driver { session } = self;
-        let Session {
-            port,
-            part: _,
-            polls: _,
-            record: _,
-            standing: _,
-        } = session;
+        let Session { port, state: _ } = session;
         port
     }
 }

@@ -2,14 +2,14 @@
 ghost use Rattle.std.specs.Prelude.{◌≡◌, ℕ, ◌≤◌, List, [], length};
 ghost use Rattle.commands.specs.Polls.{polled};
 ghost use Rattle.commands.specs.Sequences.{reset_cycles};
-ghost use Rattle.driver.specs.Called.{Did, Called, view_of, unit_reply, spent_if, settle_takes, abandon_takes};
+ghost use Rattle.driver.specs.Called.{Did, Called, unit_reply, spent_if, settle_takes, abandon_takes};
 ghost use Rattle.driver.specs.Outcomes.{verdict_reply, reset_by};
 
-use crate::keeping::{note_cut, note_end};
 use crate::session::Session;
-use crate::slip::{Slip, slip_page};
+use crate::slip::Slip;
 use crate::standing::Standing;
 use calls::call::Call;
+use calls::slip::slip_page;
 use commands::poll::poll;
 use commands::reset::send_reset;
 use flash::fault::Fault;
@@ -35,23 +35,23 @@ impl<P: Port> Session<P> {
     {
         self.admit(Call::Settle { slip: slip.number }, 0)?;
         let page = slip_page(slip.number);
-        let status = poll(&mut self.port, self.polls, Some(page))?;
+        let status = poll(&mut self.port, self.state.polls(), Some(page))?;
         slip.number = 0;
-        let verdict = Verdict::of(status);
-        note_end(&mut self.record, self.part, self.standing, verdict);
-        self.standing = Standing::Ready;
+        let verdict = Verdict::from(status);
+        self.state.note_end(verdict);
+        self.state.stand(Standing::Ready);
         report(page, verdict)
     }
 
     // FFh cuts off what is under way; until the chip is ready again, the session is stuck.
     fn start_over(&mut self, page: Option<Page>) -> Result<(), Fault>
-        requires { (rs : List ℕ) → length (reset_cycles self.old.polls rs) ≤ (P.Port.meaning self.old.port).room }
-        ensures { Did P.Port (λ rs. reset_by (view_of self.old) page (polled self.old.polls rs)) (reset_cycles self.old.polls) (unit_reply result) (view_of self.new) self.old.port self.new.port }
+        requires { (rs : List ℕ) → length (reset_cycles self.old.state.polls rs) ≤ (P.Port.meaning self.old.port).room }
+        ensures { Did P.Port (λ rs. reset_by self.old.state page (polled self.old.state.polls rs)) (reset_cycles self.old.state.polls) (unit_reply result) self.new.state self.old.port self.new.port }
     {
-        note_cut(&mut self.record, self.part, self.standing);
-        self.standing = Standing::Stuck;
-        send_reset(&mut self.port, self.polls, page)?;
-        self.standing = Standing::Ready;
+        self.state.note_cut();
+        self.state.stand(Standing::Stuck);
+        send_reset(&mut self.port, self.state.polls(), page)?;
+        self.state.stand(Standing::Ready);
         Ok(())
     }
 

@@ -17,16 +17,13 @@ impl<P: Port> Session<P> {
         ensures { Called P.Port Call.Identify [] (unit_reply result) self.old self.new }
     {
         self.admit(Call::Identify, 0)?;
-        self.standing = Standing::Stuck;
-        send_reset(&mut self.port, self.polls, None)?;
+        let polls = self.state.polls();
+        self.state.stand(Standing::Stuck);
+        send_reset(&mut self.port, polls, None)?;
         let bytes = send_identity(&mut self.port)?;
-        self.standing = Standing::Ready;
-        match Part::of_identity(bytes) {
-            Some(part) => {
-                self.part = Some(part);
-                Ok(())
-            }
-            None => Err(Fault::UnknownPart),
-        }
+        self.state.stand(Standing::Ready);
+        let part = Part::try_from(bytes)?;
+        self.state.identify(part);
+        Ok(())
     }
 }

@@ -3,6 +3,7 @@
 #![tactic(auto)]
 
 mod admit;
+mod answers;
 mod arguments;
 mod chain;
 mod copying;

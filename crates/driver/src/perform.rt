@@ -1,6 +1,6 @@
 // One call of a script, in which a slip goes by its number.
-ghost use Rattle.std.specs.Prelude.{◌≡◌, false, [], vec_len};
-ghost use Rattle.driver.specs.Called.{unit_reply, slip_reply, byte_reply, known_reply, chain_reply};
+ghost use Rattle.std.specs.Prelude.{◌≡◌, false, [], vec_len, vec_items};
+ghost use Rattle.driver.specs.Called.{chain_reply, read_reply};
 ghost use Rattle.driver.specs.Scripts.{answer_of, bytes_for, read_length, Turned};
 ghost use Rattle.driver.specs.Turns.{answered, surveying, driving, is_close};
 
@@ -12,57 +12,21 @@ use calls::call::Call;
 use flash::address::Column;
 use flash::fault::Fault;
 use flash::page::Page;
-use flash::record::BlockRecord;
 use port::port::Port;
 
-fn unit_answer(came: Result<(), Fault>) -> Answer
-    ensures { answer_of result ≡ answered (unit_reply came) }
+// A further page of a chain answers the slip's new number.
+fn chain_answer(came: Result<(), Fault>, slip: Slip) -> Answer
+    ensures { answer_of result ≡ answered (chain_reply came slip.number) }
 {
-    match came {
-        Ok(()) => Answer::Done,
-        Err(fault) => Answer::Refused(fault),
-    }
+    let number = slip.spend();
+    came.map(|()| Slip { number }).into()
 }
 
-// The slip is spent: in a script it goes by its number.
-fn slip_answer(came: Result<Slip, Fault>) -> Answer
-    ensures { answer_of result ≡ answered (slip_reply came) }
+// A read answers what is in its buffer.
+fn read_answer(came: Result<(), Fault>, buffer: Vec<u8>) -> Answer
+    ensures { answer_of result ≡ answered (read_reply came (vec_items buffer)) }
 {
-    match came {
-        Ok(mut slip) => {
-            let number = slip.number;
-            slip.number = 0;
-            Answer::Slip(number)
-        }
-        Err(fault) => Answer::Refused(fault),
-    }
-}
-
-fn byte_answer(came: Result<u8, Fault>) -> Answer
-    ensures { answer_of result ≡ answered (byte_reply came) }
-{
-    match came {
-        Ok(byte) => Answer::Byte(byte),
-        Err(fault) => Answer::Refused(fault),
-    }
-}
-
-fn known_answer(came: Result<BlockRecord, Fault>) -> Answer
-    ensures { answer_of result ≡ answered (known_reply came) }
-{
-    match came {
-        Ok(block) => Answer::Known(block),
-        Err(fault) => Answer::Refused(fault),
-    }
-}
-
-fn chain_answer(came: Result<(), Fault>, number: u32) -> Answer
-    ensures { answer_of result ≡ answered (chain_reply came number) }
-{
-    match came {
-        Ok(()) => Answer::Slip(number),
-        Err(fault) => Answer::Refused(fault),
-    }
+    came.map(|()| buffer).into()
 }
 
 impl<P: Port> Survey<P> {
@@ -71,66 +35,28 @@ impl<P: Port> Survey<P> {
         ensures { is_close call ≡ false → Turned P.Port surveying call [] (answer_of result) self.old.session self.new.session }
     {
         match call {
-            Call::Identify => unit_answer(self.identify()),
-            Call::Look(page) => byte_answer(self.look(page)),
-            Call::Reset => unit_answer(self.reset()),
+            Call::Identify => self.identify().into(),
+            Call::Look(page) => self.look(page).into(),
+            Call::Reset => self.reset().into(),
             _ => Answer::NotOffered,
         }
     }
 }
 
 impl<P: Port> Driver<P> {
-    fn settle_numbered(&mut self, number: u32) -> Answer
-        ensures { Turned P.Port driving (Call.Settle number) [] (answer_of result) self.old.session self.new.session }
-    {
-        let mut slip = Slip { number };
-        let result = self.settle(&mut slip);
-        slip.number = 0;
-        unit_answer(result)
-    }
-
-    fn abandon_numbered(&mut self, number: u32) -> Answer
-        ensures { Turned P.Port driving (Call.Abandon number) [] (answer_of result) self.old.session self.new.session }
-    {
-        let mut slip = Slip { number };
-        let result = self.abandon(&mut slip);
-        slip.number = 0;
-        unit_answer(result)
-    }
-
-    fn next_numbered(&mut self, number: u32, page: u8, column: Column, bytes: &[u8]) -> Answer
-        ensures { Turned P.Port driving (Call.CacheNext number page column) bytes.now (answer_of result) self.old.session self.new.session }
-    {
-        let mut slip = Slip { number };
-        let result = self.cache_next(&mut slip, page, column, bytes);
-        let number = slip.number;
-        slip.number = 0;
-        chain_answer(result, number)
-    }
-
-    fn last_numbered(&mut self, number: u32, page: u8, column: Column, bytes: &[u8]) -> Answer
-        ensures { Turned P.Port driving (Call.CacheLast number page column) bytes.now (answer_of result) self.old.session self.new.session }
-    {
-        let mut slip = Slip { number };
-        let result = self.cache_last(&mut slip, page, column, bytes);
-        let number = slip.number;
-        slip.number = 0;
-        chain_answer(result, number)
-    }
-
     // A read into the buffer, which is as long as the read, or 2,113 bytes where that is longer: then
     // every length is refused alike.
     fn read_all(&mut self, page: Page, column: Column, length: usize, mut buffer: Vec<u8>) -> Answer
         requires { vec_len buffer ≡ read_length (Call.Read page column length) }
         ensures { Turned P.Port driving (Call.Read page column length) [] (answer_of result) self.old.session self.new.session }
     {
-        match self.read(page, column, &mut buffer) {
-            Ok(()) => Answer::Bytes(buffer),
-            Err(fault) => Answer::Refused(fault),
-        }
+        let came = self.read(page, column, &mut buffer);
+        read_answer(came, buffer)
     }
 
-    // Any call, with the bytes that it programs, and a buffer as long as it reads.
+    // Any call, with the bytes that it programs, and a buffer as long as it reads. A slip is made and let
+    // go at each call that takes one: of a closure that is lent the slip, too little is known of the driver.
+    // A match on the call: the laws go over the calls by cases.
     pub(crate) fn perform(&mut self, call: Call, bytes: &[u8], buffer: Vec<u8>) -> Answer
         requires { vec_len buffer ≡ read_length call }
         ensures { Turned P.Port driving call (bytes_for call bytes.now) (answer_of result) self.old.session self.new.session }
@@ -141,20 +67,38 @@ impl<P: Port> Driver<P> {
                 column,
                 length,
             } => self.read_all(page, column, length, buffer),
-            Call::Erase { block } => slip_answer(self.erase(block)),
-            Call::Program { page, column } => slip_answer(self.program(page, column, bytes)),
-            Call::CacheFirst { page, column } => slip_answer(self.cache_first(page, column, bytes)),
-            Call::CacheNext { slip, page, column } => self.next_numbered(slip, page, column, bytes),
-            Call::CacheLast { slip, page, column } => self.last_numbered(slip, page, column, bytes),
+            Call::Erase { block } => self.erase(block).into(),
+            Call::Program { page, column } => self.program(page, column, bytes).into(),
+            Call::CacheFirst { page, column } => self.cache_first(page, column, bytes).into(),
+            Call::CacheNext { slip, page, column } => {
+                let mut slip = Slip { number: slip };
+                let came = self.cache_next(&mut slip, page, column, bytes);
+                chain_answer(came, slip)
+            }
+            Call::CacheLast { slip, page, column } => {
+                let mut slip = Slip { number: slip };
+                let came = self.cache_last(&mut slip, page, column, bytes);
+                chain_answer(came, slip)
+            }
             Call::Copy {
                 source,
                 destination,
-            } => slip_answer(self.copy(source, destination)),
-            Call::Settle { slip } => self.settle_numbered(slip),
-            Call::Abandon { slip } => self.abandon_numbered(slip),
-            Call::Reset => unit_answer(self.reset()),
-            Call::Pick { from } => Answer::Block(self.pick(from)),
-            Call::Record { block } => known_answer(self.record(block)),
+            } => self.copy(source, destination).into(),
+            Call::Settle { slip } => {
+                let mut slip = Slip { number: slip };
+                let came = self.settle(&mut slip);
+                slip.spend();
+                came.into()
+            }
+            Call::Abandon { slip } => {
+                let mut slip = Slip { number: slip };
+                let came = self.abandon(&mut slip);
+                slip.spend();
+                came.into()
+            }
+            Call::Reset => self.reset().into(),
+            Call::Pick { from } => self.pick(from).into(),
+            Call::Record { block } => self.record(block).into(),
             Call::Identify | Call::Look(_) | Call::Close => Answer::NotOffered,
         }
     }

@@ -3,13 +3,11 @@ ghost use Rattle.std.specs.Prelude.{◌≡◌, ℕ, ◌<◌, ◌≤◌, List, []
 ghost use Rattle.flash.specs.Addresses.{row_at};
 ghost use Rattle.commands.specs.Polls.{polled, left, first_of};
 ghost use Rattle.commands.specs.Sequences.{read_cycles};
-ghost use Rattle.driver.specs.Called.{Did, Called, view_of, byte_reply, read_reply, KeptAtRefusal};
-ghost use Rattle.driver.specs.Marks.{mark_in, mark_found};
+ghost use Rattle.driver.specs.Called.{Did, Called, byte_reply, read_reply, KeptAtRefusal};
+ghost use Rattle.driver.specs.Marks.{mark_in};
 ghost use Rattle.driver.specs.Outcomes.{read_by};
 ghost use Rattle.driver.specs.Views.{part_or};
 
-use crate::arguments::part_or;
-use crate::keeping::note;
 use crate::session::Session;
 use crate::standing::Standing;
 use calls::call::Call;
@@ -18,52 +16,30 @@ use flash::address::Column;
 use flash::fault::Fault;
 use flash::geometry::MARK_COLUMN;
 use flash::page::Page;
-use flash::part::Part;
 use port::port::Port;
-use record::change::Change;
-use record::record::Record;
 
 fn mark_in(column: u16, bytes: &[u8]) -> Option<u8>
     ensures { result ≡ mark_in column bytes.now }
 {
-    if column <= MARK_COLUMN && ((MARK_COLUMN - column) as usize) < bytes.len() {
-        Some(bytes[(MARK_COLUMN - column) as usize])
-    } else {
-        None
-    }
-}
-
-fn note_mark(kept: &mut Record, part: Option<Part>, page: Page, mark: Option<u8>)
-    ensures { kept.new.blocks ≡ mark_found part page mark kept.old.blocks }
-{
-    if let Some(byte) = mark {
-        note(
-            kept,
-            part,
-            page.block,
-            Change::MarkRead {
-                page: page.page,
-                byte,
-            },
-        );
-    }
+    let at = MARK_COLUMN.checked_sub(column)?;
+    bytes.get(usize::from(at)).copied()
 }
 
 impl<P: Port> Session<P> {
     // Until the page has come up, the session is stuck.
     fn fetch(&mut self, page: Page, column: Column, buffer: &mut [u8]) -> Result<(), Fault>
-        requires known { some (part_or self.old.part) ≡ self.old.part }
+        requires known { some (part_or self.old.state.part) ≡ self.old.state.part }
         requires inside { page.page < 64 }
-        requires room { (rs : List ℕ) → length (read_cycles self.old.part self.old.polls (row_at page) column (length buffer.old) rs) ≤ (P.Port.meaning self.old.port).room }
-        ensures did { Did P.Port (λ rs. read_by (view_of self.old) page column (first_of (length buffer.old) (left self.old.polls rs)) (polled self.old.polls rs)) (read_cycles self.old.part self.old.polls (row_at page) column (length buffer.old)) (read_reply result buffer.new) (view_of self.new) self.old.port self.new.port }
+        requires room { (rs : List ℕ) → length (read_cycles self.old.state.part self.old.state.polls (row_at page) column (length buffer.old) rs) ≤ (P.Port.meaning self.old.port).room }
+        ensures did { Did P.Port (λ rs. read_by self.old.state page column (first_of (length buffer.old) (left self.old.state.polls rs)) (polled self.old.state.polls rs)) (read_cycles self.old.state.part self.old.state.polls (row_at page) column (length buffer.old)) (read_reply result buffer.new) self.new.state self.old.port self.new.port }
         ensures kept { KeptAtRefusal result buffer.old buffer.new }
     {
-        self.standing = Standing::Stuck;
-        let part = part_or(self.part);
-        send_read(&mut self.port, part, self.polls, page, column, buffer)?;
-        let mark = mark_in(column.number(), buffer);
-        note_mark(&mut self.record, self.part, page, mark);
-        self.standing = Standing::Ready;
+        let part = self.state.part_or();
+        let polls = self.state.polls();
+        self.state.stand(Standing::Stuck);
+        send_read(&mut self.port, part, polls, page, column, buffer)?;
+        self.state.note_mark(page, mark_in(column.number(), buffer));
+        self.state.stand(Standing::Ready);
         Ok(())
     }
 

@@ -1,5 +1,5 @@
 // A run of a script, any list of calls with any arguments, on any port.
-ghost use Rattle.std.specs.Prelude.{◌≡◌, true, cond, [], ◌∷◌, IfOk, vec_len, vec_capacity, MatchBool};
+ghost use Rattle.std.specs.Prelude.{◌≡◌, [], ◌∷◌, vec_len, vec_capacity, MatchResult};
 ghost use Rattle.port.specs.Meanings.{Fresh};
 ghost use Rattle.driver.specs.Opens.{poll_count};
 ghost use Rattle.driver.specs.Scripts.{answer_of, read_length, Followed};
@@ -11,7 +11,7 @@ use crate::stage::Stage;
 use crate::survey::Survey;
 use calls::call::Call;
 use port::port::Port;
-use std::alloc::{AllocError, Global};
+use std::alloc::{AllocFailed, Global};
 
 fn read_length(call: Call) -> usize
     ensures { result ≡ read_length call }
@@ -20,12 +20,6 @@ fn read_length(call: Call) -> usize
         Call::Read { length, .. } => length.min(2113),
         _ => 0,
     }
-}
-
-fn zeroes(heap: Global, length: usize) -> Result<Vec<u8>, AllocError>
-    ensures { IfOk result (λ v. vec_len v ≡ length) }
-{
-    vec![in heap; 0; length]
 }
 
 fn survey_turn<P: Port>(mut survey: Survey<P>, call: Call) -> (Stage<P>, Answer)
@@ -51,27 +45,24 @@ fn turn<P: Port>(stage: Stage<P>, call: Call, bytes: &[u8], buffer: Vec<u8>) -> 
     }
 }
 
-// One step, if the run is still going and there is memory for its answer.
+// One step, if there is memory for its answer; else the stage comes back as it was.
 fn take_step<P: Port>(
     heap: Global,
-    going: bool,
     stage: Stage<P>,
     step: &Step,
     answers: &mut Vec<Answer>,
-) -> (Stage<P>, bool)
-    ensures { MatchBool result.1 ((going ≡ true) × Made P.Port step.now answers.old.items answers.new.items stage result.0) (Rested answers.old.items answers.new.items stage result.0) }
+) -> Result<Stage<P>, AllocFailed<Stage<P>>>
+    ensures { MatchResult result (λ next. Made P.Port step.now answers.old.items answers.new.items stage next) (λ rest. Rested answers.old.items answers.new.items stage rest.value) }
 {
-    if !going || answers.reserve(1).is_err() {
-        return (stage, false);
+    if answers.reserve(1).is_err() {
+        return Err(AllocFailed { value: stage });
     }
-    match zeroes(heap, read_length(step.call)) {
-        Ok(buffer) => {
-            let (next, answer) = turn(stage, step.call, step.bytes.as_slice(), buffer);
-            answers.push_reserved(answer);
-            (next, true)
-        }
-        Err(_) => (stage, false),
-    }
+    let Ok(buffer) = vec![in heap; 0; read_length(step.call)] else {
+        return Err(AllocFailed { value: stage });
+    };
+    let (next, answer) = turn(stage, step.call, step.bytes.as_slice(), buffer);
+    answers.push_reserved(answer);
+    Ok(next)
 }
 
 fn finish<P: Port>(stage: Stage<P>) -> P
@@ -95,11 +86,11 @@ pub fn run<P: Port>(
     ensures { Fresh (P.Port.meaning port) → Followed P.Port (poll_count polls) script.now answers.old.items answers.new.items port result }
 {
     let mut stage = Stage::Surveying(Survey::open(port, polls));
-    let mut going = true;
     for step in script {
-        let (next, on) = take_step(heap, going, stage, step, answers);
-        stage = next;
-        going = on;
+        match take_step(heap, stage, step, answers) {
+            Ok(next) => stage = next,
+            Err(rest) => return finish(rest.value),
+        }
     }
     finish(stage)
 }

@@ -10,6 +10,8 @@ pub struct Step {
     pub bytes: Vec<u8>,
 }
 
+// One enum and no Result: that a call is not offered is an answer, and the law of a run goes over the answers
+// by cases.
 #[derive(Drop)]
 pub enum Answer {
     Done,

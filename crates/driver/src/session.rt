@@ -1,14 +1,9 @@
 // What survey and driver both hold.
-use crate::standing::Standing;
-use flash::part::Part;
+use crate::state::State;
 use port::port::Port;
-use record::record::Record;
 
-/// The port, the part once it is known, how often a poll asks, the record, and what is under way.
+/// The port, and all else that a session holds.
 pub(crate) struct Session<P: Port> {
     pub(crate) port: P,
-    pub(crate) part: Option<Part>,
-    pub(crate) polls: u16,
-    pub(crate) record: Record,
-    pub(crate) standing: Standing,
+    pub(crate) state: State,
 }

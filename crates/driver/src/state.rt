@@ -1,126 +1,94 @@
-// Whether what is under way allows a call.
-ghost use Rattle.std.specs.Prelude.{◌≡◌};
-ghost use Rattle.bus.specs.States.{known};
-ghost use Rattle.record.specs.Judgements.{admitted};
-ghost use Rattle.driver.specs.Refusals.{free_fault, reset_fault, is_out, slip_fault, state_fault};
-ghost use Rattle.driver.specs.Views.{slip_out, is_stuck, in_chain};
+// What a session holds, its port aside.
+ghost use Rattle.std.specs.Prelude.{◌≡◌, Some as some};
+ghost use Rattle.bus.specs.States.{blocks_in, allowed_in};
+ghost use Rattle.driver.specs.Opens.{opened};
+ghost use Rattle.driver.specs.Outcomes.{standing_at, identifying};
+ghost use Rattle.driver.specs.Views.{part_or, slip_of};
 
-use crate::slip::{chain_slip, erase_slip, program_slip};
 use crate::standing::Standing;
-use calls::call::Call;
-use flash::fault::Fault;
 use flash::part::Part;
+use record::record::Record;
+use std::marker::Model;
 
-fn free(standing: Standing) -> Result<(), Fault>
-    ensures { result ≡ admitted (free_fault standing) }
-{
-    match standing {
-        Standing::Ready => Ok(()),
-        Standing::Stuck => Err(Fault::Stuck),
-        _ => Err(Fault::SlipOut),
-    }
+/// The part once it is known, how often a poll asks, the record, and what is under way.
+#[derive(Drop)]
+pub(crate) struct State {
+    pub(crate) part: Option<Part>,
+    pub(crate) polls: u16,
+    pub(crate) known: Record,
+    pub(crate) standing: Standing,
 }
 
-fn resettable(standing: Standing) -> Result<(), Fault>
-    ensures { result ≡ admitted (reset_fault standing) }
-{
-    match standing {
-        Standing::Ready | Standing::Stuck => Ok(()),
-        _ => Err(Fault::SlipOut),
-    }
+impl Model for State {
+    ghost use Rattle.driver.specs.Views.{View};
+
+    ghost Value = { View };
+
+    ghost view = { λ s. record { part = s.part; polls = s.polls; blocks = s.known.blocks; standing = s.standing } };
 }
 
-fn slip_out(standing: Standing) -> Option<u32>
-    ensures { result ≡ slip_out standing }
-{
-    match standing {
-        Standing::Ready | Standing::Stuck => None,
-        Standing::Erasing { block } => Some(erase_slip(block)),
-        Standing::Programming(page) => Some(program_slip(page)),
-        Standing::Chaining(page) => Some(chain_slip(page)),
+impl State {
+    /// The part unknown, nothing known of any block, and nothing under way. A poll asks `polls` times at
+    /// most: once for 0, and never more than 1,000 times.
+    pub(crate) fn opened(polls: u32) -> State
+        ensures { result ≡ opened polls }
+    {
+        State {
+            part: None,
+            polls: polls.clamp(1, 1000) as u16,
+            known: Record::new(),
+            standing: Standing::Ready,
+        }
     }
-}
 
-fn is_out(out: Option<u32>, number: u32) -> bool
-    ensures { result ≡ is_out out number }
-{
-    match out {
-        Some(out) => out == number,
-        None => false,
+    pub(crate) fn polls(&self) -> u16
+        ensures { result ≡ self.now.polls }
+    {
+        self.polls
     }
-}
 
-fn is_stuck(standing: Standing) -> bool
-    ensures { result ≡ is_stuck standing }
-{
-    match standing {
-        Standing::Stuck => true,
-        _ => false,
+    /// How many blocks the part has; none where it is unknown.
+    pub(crate) fn blocks(&self) -> u16
+        ensures { result ≡ blocks_in self.now.part }
+    {
+        self.part.map_or(0, |part| part.blocks())
     }
-}
 
-fn in_chain(standing: Standing) -> bool
-    ensures { result ≡ in_chain standing }
-{
-    match standing {
-        Standing::Chaining(_) => true,
-        _ => false,
+    /// How many programs of a page the part allows; none where it is unknown.
+    pub(crate) fn programs_allowed(&self) -> u8
+        ensures { result ≡ allowed_in self.now.part }
+    {
+        self.part.map_or(0, |part| part.programs_allowed())
     }
-}
 
-fn is_known(part: Option<Part>) -> bool
-    ensures { result ≡ known part }
-{
-    match part {
-        Some(_) => true,
-        None => false,
+    /// The part, where it is known.
+    pub(crate) fn part_or(&self) -> Part
+        ensures { result ≡ part_or self.now.part }
+    {
+        // Where a call is admitted the part is known: the other is never used.
+        self.part.unwrap_or(Part::OneGbit)
     }
-}
 
-// The slip is out, and of a kind that the call takes.
-fn holding(standing: Standing, number: u32, kind: bool) -> Result<(), Fault>
-    ensures { result ≡ admitted (slip_fault standing number kind) }
-{
-    if is_stuck(standing) {
-        return Err(Fault::Stuck);
+    pub(crate) fn identify(&mut self, part: Part)
+        ensures { self.new ≡ identifying self.old (some part) }
+    {
+        self.part = Some(part);
+        self.standing = Standing::Ready;
     }
-    if is_out(slip_out(standing), number) && kind {
-        Ok(())
-    } else {
-        Err(Fault::WrongSlip)
-    }
-}
 
-fn unidentified(part: Option<Part>, standing: Standing) -> Result<(), Fault>
-    ensures { result ≡ admitted (state_fault part standing Call.Identify) }
-{
-    free(standing)?;
-    if is_known(part) {
-        Err(Fault::Identified)
-    } else {
-        Ok(())
+    pub(crate) fn stand(&mut self, standing: Standing)
+        ensures { self.new ≡ standing_at self.old standing }
+    {
+        self.standing = standing;
     }
-}
 
-pub(crate) fn admit_state(part: Option<Part>, standing: Standing, call: Call) -> Result<(), Fault>
-    ensures { result ≡ admitted (state_fault part standing call) }
-{
-    match call {
-        Call::Identify => unidentified(part, standing),
-        Call::Look(_)
-        | Call::Read { .. }
-        | Call::Erase { .. }
-        | Call::Program { .. }
-        | Call::CacheFirst { .. }
-        | Call::Copy { .. } => free(standing),
-        Call::CacheNext { slip, .. } | Call::CacheLast { slip, .. } => holding(
-            standing,
-            slip,
-            in_chain(standing),
-        ),
-        Call::Settle { slip } => holding(standing, slip, !in_chain(standing)),
-        Call::Abandon { slip } => holding(standing, slip, true),
-        Call::Reset => resettable(standing),
-        Call::Close | Call::Pick { .. } | Call::Record { .. } => Ok(()),
+    /// The work is under way; its slip has this number.
+    pub(crate) fn begin(&mut self, work: Standing) -> u32
+        ensures slip { result ≡ slip_of work }
+        ensures state { self.new ≡ standing_at self.old work }
+    {
+        self.standing = work;
+        // Ready and stuck have no slip, and are no work; 0 is the number of a spent one.
+        work.slip_out().unwrap_or(0)
     }
 }

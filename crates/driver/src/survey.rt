@@ -1,31 +1,19 @@
 // The survey: it finds out which part the chip is and which blocks the factory marked.
 ghost use Rattle.std.specs.Prelude.{◌≡◌, []};
 ghost use Rattle.driver.specs.Called.{Called, view_of, unit_reply, byte_reply};
-ghost use Rattle.driver.specs.Opens.{poll_count, opened};
+ghost use Rattle.driver.specs.Opens.{opened};
 
 use crate::driver::Driver;
 use crate::session::Session;
-use crate::standing::Standing;
+use crate::state::State;
 use calls::call::Call;
 use flash::fault::Fault;
 use flash::page::Page;
 use port::port::Port;
-use record::record::Record;
 
+// Survey and driver are two types, so that a call that a stage does not offer cannot be written.
 pub struct Survey<P: Port> {
     pub(crate) session: Session<P>,
-}
-
-fn poll_count(polls: u32) -> u16
-    ensures { result ≡ poll_count polls }
-{
-    if polls == 0 {
-        1
-    } else if polls > 1000 {
-        1000
-    } else {
-        polls as u16
-    }
 }
 
 impl<P: Port> Survey<P> {
@@ -38,10 +26,7 @@ impl<P: Port> Survey<P> {
         Survey {
             session: Session {
                 port,
-                part: None,
-                polls: poll_count(polls),
-                record: Record::new(),
-                standing: Standing::Ready,
+                state: State::opened(polls),
             },
         }
     }
@@ -71,6 +56,7 @@ impl<P: Port> Survey<P> {
     pub fn close(self) -> Driver<P>
         ensures { result.session ≡ self.session }
     {
+        // A survey is linear: it is taken apart whole, not read at a field.
         let Survey { session } = self;
         Driver { session }
     }

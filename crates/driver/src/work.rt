@@ -1,11 +1,14 @@
 // The calls that begin work: an erase, a program, and the first page of a chain.
-ghost use Rattle.std.specs.Prelude.{[]};
-ghost use Rattle.driver.specs.Called.{Called, slip_reply};
+ghost use Rattle.std.specs.Prelude.{[], Some as some};
+ghost use Rattle.flash.specs.Addresses.{row_at};
+ghost use Rattle.commands.specs.Sequences.{program_cycles};
+ghost use Rattle.commands.specs.Sent.{Sent};
+ghost use Rattle.driver.specs.Called.{Called, Begun, slip_reply};
+ghost use Rattle.driver.specs.Outcomes.{begun};
+ghost use Rattle.driver.specs.Views.{part_or};
 
-use crate::arguments::part_or;
-use crate::keeping::{note, note_program};
 use crate::session::Session;
-use crate::slip::{Slip, chain_slip, erase_slip, program_slip};
+use crate::slip::Slip;
 use crate::standing::Standing;
 use bus::act::Confirm;
 use calls::call::Call;
@@ -15,7 +18,6 @@ use flash::address::Column;
 use flash::fault::Fault;
 use flash::page::Page;
 use port::port::Port;
-use record::change::Change;
 
 impl<P: Port> Session<P> {
     pub(crate) fn erase(&mut self, block: u16) -> Result<Slip, Fault>
@@ -23,14 +25,30 @@ impl<P: Port> Session<P> {
     {
         self.admit(Call::Erase { block }, 0)?;
         let page = Page { block, page: 0 };
-        send_erase(&mut self.port, part_or(self.part), page.row())?;
-        note(&mut self.record, self.part, block, Change::PagesLost);
-        self.standing = Standing::Erasing { block };
-        Ok(Slip {
-            number: erase_slip(block),
-        })
+        send_erase(&mut self.port, self.state.part_or(), page.row())?;
+        self.state.forget_pages(block);
+        let number = self.state.begin(Standing::Erasing { block });
+        Ok(Slip { number })
     }
 
+    /// Sends the bytes of a page with a confirm: its program is under way, and the slip has this number.
+    pub(crate) fn begin_program(
+        &mut self,
+        page: Page,
+        column: Column,
+        bytes: &[u8],
+        confirm: Confirm,
+    ) -> Result<u32, Fault>
+        ensures sent { Sent P.Port (program_cycles (some (part_or self.old.state.part)) (row_at page) column bytes.now confirm) result self.old.port self.new.port }
+        ensures begun { Begun result (begun confirm self.old.state page) self.new.state }
+    {
+        let part = self.state.part_or();
+        send_program(&mut self.port, part, page.row(), column, bytes, confirm)?;
+        Ok(self.state.begin_program(page, confirm))
+    }
+
+    // This and the first page of a chain are not one method over the confirm: the table of its calls would be
+    // longer than either.
     pub(crate) fn program(
         &mut self,
         page: Page,
@@ -40,20 +58,8 @@ impl<P: Port> Session<P> {
         ensures { Called P.Port (Call.Program page column) bytes.now (slip_reply result) self.old self.new }
     {
         self.admit(Call::Program { page, column }, bytes.len())?;
-        let part = part_or(self.part);
-        send_program(
-            &mut self.port,
-            part,
-            page.row(),
-            column,
-            bytes,
-            Confirm::Program,
-        )?;
-        note_program(&mut self.record, self.part, page);
-        self.standing = Standing::Programming(page);
-        Ok(Slip {
-            number: program_slip(page),
-        })
+        let number = self.begin_program(page, column, bytes, Confirm::Program)?;
+        Ok(Slip { number })
     }
 
     pub(crate) fn cache_first(
@@ -65,19 +71,7 @@ impl<P: Port> Session<P> {
         ensures { Called P.Port (Call.CacheFirst page column) bytes.now (slip_reply result) self.old self.new }
     {
         self.admit(Call::CacheFirst { page, column }, bytes.len())?;
-        let part = part_or(self.part);
-        send_program(
-            &mut self.port,
-            part,
-            page.row(),
-            column,
-            bytes,
-            Confirm::Cache,
-        )?;
-        note_program(&mut self.record, self.part, page);
-        self.standing = Standing::Chaining(page);
-        Ok(Slip {
-            number: chain_slip(page),
-        })
+        let number = self.begin_program(page, column, bytes, Confirm::Cache)?;
+        Ok(Slip { number })
     }
 }

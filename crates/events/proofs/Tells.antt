@@ -1,24 +1,17 @@
 -- Lists of things told, put together.
 use Rattle.std.proofs.Common.{◌≡◌, ℕ, ◌+◌, ◌<◌, ◌≤◌, List, [], ◌∷◌, ◌++◌, map, length, get_or, take, sym, refl, ap, ◌∙◌, append_assoc, append-nil}
-use mathlib.Core.List.{map-append, foldl-append}
+use mathlib.Core.List.{foldl-append}
 use Rattle.std.proofs.lemmas.List.{take_more, take_all}
 use Rattle.flash.specs.declared.cycle.Cycle.{Cycle}
 use Rattle.bus.specs.Acts.{act_of}
 use Rattle.bus.specs.Breaches.{named}
 use Rattle.bus.specs.Bus.{Reader, step}
 use Rattle.bus.specs.Readers.{told}
-use Rattle.bus.specs.declared.breach.Breach.{Breach}
 use Rattle.bus.specs.declared.reader.Told.{Told}
 use Rattle.events.specs.Tellers as Tellers
 use Rattle.events.specs.Tellers.{thing}
 use Rattle.events.specs.declared.event.Event.{Event}
 use Rattle.events.specs.Events.{Thing, broke, happened, hand_after, Telling, later, tells, follow, follows, events}
-
--- five rules, one after the other
-pub five_told : (f : Breach → Thing) (x₀ x₁ x₂ x₃ x₄ x₅ : List Thing) (a b c d e : List Breach)
-    → x₁ ≡ x₀ ++ map f a → x₂ ≡ x₁ ++ map f b → x₃ ≡ x₂ ++ map f c → x₄ ≡ x₃ ++ map f d → x₅ ≡ x₄ ++ map f e
-    → x₅ ≡ x₀ ++ map f (a ++ (b ++ (c ++ (d ++ e))))
-five_told f x₀ x₁ x₂ x₃ x₄ x₅ a b c d e h₁ h₂ h₃ h₄ h₅ = rw (h₅, h₄, h₃, h₂, h₁) (simp (map-append, append_assoc))
 
 module _ (t : Telling) (c : Cycle) where
   pub followed : (r : Reader) (h : List ℕ) (n : ℕ) → r ≡ step t.reader c → h ≡ hand_after (act_of t.reader.bus c) t.hand → n ≡ later t.cycles

@@ -1,6 +1,7 @@
 // One thing told.
 use bus::act::Confirm;
 use bus::breach::Breach;
+use bus::state::PageRead;
 use flash::address::{Column, Row};
 
 #[derive(Drop)]
@@ -17,11 +18,7 @@ pub enum Event {
     Identity {
         bytes: [u8; 5],
     },
-    Read {
-        row: Row,
-        column: Column,
-        copy: bool,
-    },
+    Read(PageRead),
     /// A byte of the register came with the n-th cycle.
     Data {
         cycle: u64,

@@ -2,38 +2,26 @@
 ghost use Rattle.std.specs.Prelude.{◌≡◌, ◌+◌, ◌<◌, ◌≤◌, [], ◌∷◌, ◌++◌, map, length, replicate, vec_len, vec_capacity, MatchResult};
 ghost use Rattle.flash.specs.Records.{first_record};
 ghost use Rattle.bus.specs.States.{first_bus};
-ghost use Rattle.bus.specs.Breaches.{named, if_so};
+ghost use Rattle.bus.specs.Breaches.{named};
 ghost use Rattle.events.specs.Events.{broke, happened, hand_after, begun};
 ghost use Rattle.events.specs.Tellers.{thing, listed, stands, Told, ToldFront};
 
 use crate::event::Event;
 use bus::act::Act;
-use bus::breach::{Breach, Breaches};
+use bus::breach::Breaches;
 use bus::reader::BusReader;
 use bus::state::BusState;
 use flash::cycle::Cycle;
 use flash::record::BlockRecord;
 use std::alloc::{AllocError, Global};
+use std::mem;
 
 #[derive(Drop)]
 pub struct Teller<'a> {
     reader: BusReader<'a>,
-    heap: Global,
     // the bytes given of a program that is not yet confirmed
     hand: Vec<u8>,
     cycles: u64,
-}
-
-// A rule that is broken is told.
-fn tell_breach(events: &mut Vec<Event>, cycle: u64, broken: bool, breach: Breach)
-    requires { vec_len events.old < vec_capacity events.old }
-    ensures told { map thing events.new.items ≡ map thing events.old.items ++ map (broke cycle) (if_so broken breach) }
-    ensures len { vec_len events.new ≤ vec_len events.old + 1 }
-    ensures capacity { vec_capacity events.new ≡ vec_capacity events.old }
-{
-    if broken {
-        events.push_reserved(Event::Breach { cycle, breach });
-    }
 }
 
 fn tell_breaches(events: &mut Vec<Event>, cycle: u64, breaches: Breaches)
@@ -42,20 +30,15 @@ fn tell_breaches(events: &mut Vec<Event>, cycle: u64, breaches: Breaches)
     ensures len { vec_len events.new ≤ vec_len events.old + 5 }
     ensures capacity { vec_capacity events.new ≡ vec_capacity events.old }
 {
-    tell_breach(events, cycle, breaches.while_busy, Breach::WhileBusy);
-    tell_breach(events, cycle, breaches.out_of_place, Breach::OutOfPlace);
-    tell_breach(events, cycle, breaches.unfit_block, Breach::UnfitBlock);
-    tell_breach(events, cycle, breaches.page_order, Breach::PageOrder);
-    tell_breach(
-        events,
-        cycle,
-        breaches.too_many_programs,
-        Breach::TooManyPrograms,
-    );
+    for rule in breaches.rules() {
+        if let Some(breach) = rule {
+            events.push_reserved(Event::Breach { cycle, breach });
+        }
+    }
 }
 
 // What an act does. A program or a reset takes the bytes in hand; a byte to program is added to them.
-fn tell_act(cycle: u64, act: Act, hand: &mut Vec<u8>, heap: Global) -> Option<Event>
+fn tell_act(cycle: u64, act: Act, hand: &mut Vec<u8>) -> Option<Event>
     requires { vec_len hand.old < vec_capacity hand.old }
     ensures told { listed result ≡ happened cycle act hand.old.items }
     ensures hand { hand.new.items ≡ hand_after act hand.old.items }
@@ -68,7 +51,7 @@ fn tell_act(cycle: u64, act: Act, hand: &mut Vec<u8>, heap: Global) -> Option<Ev
         }
         Act::Status { byte } => Some(Event::Status { byte }),
         Act::Identify { bytes } => Some(Event::Identity { bytes }),
-        Act::Read { row, column, copy } => Some(Event::Read { row, column, copy }),
+        Act::Read(page) => Some(Event::Read(page)),
         Act::Data { byte, .. } => Some(Event::Data { cycle, byte }),
         Act::Erase { row } => Some(Event::Erase { block: row.block() }),
         Act::Load { byte, .. } => {
@@ -80,7 +63,8 @@ fn tell_act(cycle: u64, act: Act, hand: &mut Vec<u8>, heap: Global) -> Option<Ev
             column,
             confirm,
         } => {
-            let bytes = std::mem::replace(hand, Vec::new(heap));
+            let heap = *hand.allocator();
+            let bytes = mem::replace(hand, Vec::new(heap));
             Some(Event::Program {
                 row,
                 column,
@@ -108,7 +92,6 @@ impl<'a> Teller<'a> {
     {
         Teller {
             reader: BusReader::new(blocks),
-            heap,
             hand: Vec::new(heap),
             cycles: 0,
         }
@@ -132,7 +115,7 @@ impl Teller<'_> {
         let told = self.reader.read(cycle);
         self.cycles = self.cycles.saturating_add(1);
         tell_breaches(events, self.cycles, told.breaches);
-        let event = tell_act(self.cycles, told.act, &mut self.hand, self.heap);
+        let event = tell_act(self.cycles, told.act, &mut self.hand);
         tell_event(events, event);
         Ok(())
     }
@@ -143,8 +126,7 @@ impl Teller<'_> {
         ensures { MatchResult result (λ _. Told (stands self.old) (stands self.new) cycles.now events.old.items events.new.items) (λ _. ToldFront (stands self.old) (stands self.new) cycles.now events.old.items events.new.items) }
     {
         for cycle in cycles {
-            let Cycle { kind, byte } = *cycle;
-            self.tell_one(Cycle { kind, byte }, events)?;
+            self.tell_one(*cycle, events)?;
         }
         Ok(())
     }

@@ -1,22 +1,17 @@
 -- Numbers as bytes, over the number of bytes.
-use Rattle.std.proofs.Common.{◌≡◌, ℕ, zero, suc, ◌+◌, ◌-◌, ◌*◌, ◌/◌, ◌%◌, ◌^◌, ◌<◌, List, [], ◌∷◌, ◌++◌, length, take, set, ap, ◌∙◌, append_assoc, append-nil, arith}
+use Rattle.std.proofs.Common.{◌≡◌, ℕ, zero, suc, ◌+◌, ◌-◌, ◌*◌, ◌/◌, ◌%◌, ◌^◌, ◌<◌, List, ◌∷◌, ◌++◌, length, take, set, ap, ◌∙◌, arith}
 use native.Mathlib.Nat.{pow-succ'}
-use Rattle.std.proofs.lemmas.List.{take_more_set, take_all}
+use Rattle.std.proofs.lemmas.Grind.{common_steps}
 use Rattle.flash.specs.Addresses.{low_bytes, number}
 
--- one byte more is written, one fewer is left
-pub bytes_more : (n i w b : ℕ) (xs : List ℕ) → b ≡ w % 256 → i < n → length xs ≡ n
-    → take (i + 1) (set xs i b) ++ low_bytes (n - (i + 1)) (w / 256) ≡ take i xs ++ low_bytes (n - i) w
-bytes_more n i w b xs e h l =
-    ap (λ ys. ys ++ low_bytes (n - (i + 1)) (w / 256)) (take_more_set xs i b (omega arith))
-    ∙ (append_assoc (take i xs) (b ∷ []) (low_bytes (n - (i + 1)) (w / 256))
-    ∙ (ap (λ x. take i xs ++ (x ∷ low_bytes (n - (i + 1)) (w / 256))) e
-    ∙ ap (λ m. take i xs ++ low_bytes m w) (let e : suc (n - (i + 1)) ≡ n - i = omega arith in e)))
+-- the next byte, and the bytes that are left
+low_bytes_step : (n i w : ℕ) → i < n → low_bytes (n - i) w ≡ (w % 256) ∷ low_bytes (n - (i + 1)) (w / 256)
+low_bytes_step n i w h = ap (λ m. low_bytes m w) (let e : n - i ≡ suc (n - (i + 1)) = omega arith in e)
 
-pub bytes_all : (n i w : ℕ) (xs : List ℕ) → n ≡ i → length xs ≡ n → take i xs ++ low_bytes (n - i) w ≡ xs
-bytes_all n i w xs e l =
-    ap (λ m. take i xs ++ low_bytes m w) (let z : n - i ≡ 0 = omega arith in z)
-    ∙ (append-nil (take i xs) ∙ take_all i xs (omega arith))
+-- one byte more is written, one fewer is left
+pub bytes_more : (n i w : ℕ) (xs : List ℕ) → i < n → length xs ≡ n
+    → take (i + 1) (set xs i (w % 256)) ++ low_bytes (n - (i + 1)) (w / 256) ≡ take i xs ++ low_bytes (n - i) w
+bytes_more n i w xs h l = grind (arith, common_steps, low_bytes_step n i w h)
 
 -- whatever the number of bytes: from them the number comes back
 pub comes_back : (n w : ℕ) → w < 256 ^ n → number (low_bytes n w) ≡ w

@@ -1,5 +1,6 @@
 -- The refusals of a call: their numbers, where each is made, and the block and page concerned.
-use Rattle.std.specs.Prelude.{ℕ, Some, None, Option}
+use Rattle.std.specs.Prelude.{ℕ, List, [], ◌++◌, Some, None, Option, codes, decimal}
+use Rattle.std.specs.Option.{option_map, option_flatten}
 use Rattle.flash.specs.declared.fault.Concern.{Concern}
 use Rattle.flash.specs.declared.fault.Concern.TheVariants as concern
 use Rattle.flash.specs.declared.fault.Fault.{Fault}
@@ -47,41 +48,56 @@ place_of (fault.WorkFailed p) = place.Chip
 place_of (fault.WorkProtected p) = place.Chip
 
 -- what is concerned: nothing, a block alone, or a page of a block
-abbrev pub concerned_with : Option Page → Concern
-concerned_with None = concern.Nothing
-concerned_with (Some p) = concern.One p
+abbrev pub concerned_with : Option Page → Option Concern
+concerned_with None = None
+concerned_with (Some p) = Some (concern.One p)
 
-abbrev pub concerned : Fault → Concern
-concerned fault.Stuck = concern.Nothing
-concerned fault.SlipOut = concern.Nothing
-concerned fault.WrongSlip = concern.Nothing
-concerned fault.Identified = concern.Nothing
-concerned (fault.NoSuchBlock b) = concern.Block b
-concerned (fault.NoSuchPage p) = concern.One p
-concerned (fault.NoSuchSpan p) = concern.One p
-concerned (fault.MarkUnread p) = concern.One p
-concerned (fault.UnfitBlock p) = concern.One p
-concerned (fault.StaleBlock p) = concern.One p
-concerned (fault.PageOrder p) = concern.One p
-concerned (fault.TooManyPrograms p) = concern.One p
+abbrev pub concerned : Fault → Option Concern
+concerned fault.Stuck = None
+concerned fault.SlipOut = None
+concerned fault.WrongSlip = None
+concerned fault.Identified = None
+concerned (fault.NoSuchBlock b) = Some (concern.Block b)
+concerned (fault.NoSuchPage p) = Some (concern.One p)
+concerned (fault.NoSuchSpan p) = Some (concern.One p)
+concerned (fault.MarkUnread p) = Some (concern.One p)
+concerned (fault.UnfitBlock p) = Some (concern.One p)
+concerned (fault.StaleBlock p) = Some (concern.One p)
+concerned (fault.PageOrder p) = Some (concern.One p)
+concerned (fault.TooManyPrograms p) = Some (concern.One p)
 concerned (fault.NoRoom p) = concerned_with p
 concerned (fault.Timeout p) = concerned_with p
-concerned fault.UnknownPart = concern.Nothing
-concerned (fault.WorkFailed p) = concern.One p
-concerned (fault.WorkProtected p) = concern.One p
+concerned fault.UnknownPart = None
+concerned (fault.WorkFailed p) = Some (concern.One p)
+concerned (fault.WorkProtected p) = Some (concern.One p)
 
-abbrev block_in : Concern → Option ℕ
-block_in concern.Nothing = None
-block_in (concern.Block b) = Some b
-block_in (concern.One p) = Some p.block
+abbrev pub block_in : Concern → ℕ
+block_in (concern.Block b) = b
+block_in (concern.One p) = p.block
 
-abbrev page_in : Concern → Option ℕ
-page_in concern.Nothing = None
+abbrev pub page_in : Concern → Option ℕ
 page_in (concern.Block b) = None
 page_in (concern.One p) = Some p.page
 
 abbrev pub block_concerned : Fault → Option ℕ
-block_concerned f = block_in (concerned f)
+block_concerned f = option_map block_in (concerned f)
 
 abbrev pub page_concerned : Fault → Option ℕ
-page_concerned f = page_in (concerned f)
+page_concerned f = option_flatten (option_map page_in (concerned f))
+
+-- a refusal as text
+abbrev pub place_name : Place → List ℕ
+place_name place.State = codes "state"
+place_name place.Arguments = codes "arguments"
+place_name place.Record = codes "record"
+place_name place.Port = codes "port"
+place_name place.Chip = codes "chip"
+
+abbrev with_number : List ℕ → Option ℕ → List ℕ
+with_number word None = []
+with_number word (Some n) = word ++ decimal n
+
+abbrev pub fault_text : Fault → List ℕ
+fault_text f =
+    codes "refused " ++ (decimal (number_of f) ++ (codes " " ++ (place_name (place_of f)
+    ++ (with_number (codes " block ") (block_concerned f) ++ with_number (codes " page ") (page_concerned f)))))

@@ -1,5 +1,5 @@
 -- The two parts in numbers.
-use Rattle.std.specs.Prelude.{◌≡◌, ℕ, cond, List, [], ◌∷◌, Some, None, Option}
+use Rattle.std.specs.Prelude.{◌≡◌, ℕ, cond, List, [], ◌∷◌, Some, None, Option, codes}
 use Rattle.std.specs.Str.{bytes_eq}
 use Rattle.flash.specs.declared.part.Part.{Part}
 use Rattle.flash.specs.declared.part.Part.TheVariants.{OneGbit, TwoGbit}
@@ -31,3 +31,7 @@ identified bs =
 -- a part is told by its five bytes and by no others
 abbrev pub ToldBy : Option Part → List ℕ → Type 0
 ToldBy o bs = (p : Part) → (o ≡ Some p → bs ≡ identity_of p) × (bs ≡ identity_of p → o ≡ Some p)
+
+abbrev pub part_name : Part → List ℕ
+part_name OneGbit = codes "1G"
+part_name TwoGbit = codes "2G"

@@ -1,5 +1,5 @@
 -- What is known of one block, and how work on it changes that.
-use Rattle.std.specs.Prelude.{ℕ, ◌+◌, Bool, true, false, cond, not, ◌&&◌, ◌||◌, ◌==◌, nat_le, nat_lt}
+use Rattle.std.specs.Prelude.{ℕ, ◌+◌, List, ◌++◌, codes, decimal, Bool, true, false, cond, not, ◌&&◌, ◌||◌, ◌==◌, nat_le, nat_lt}
 use Rattle.flash.specs.declared.record.Mark.{Mark}
 use Rattle.flash.specs.declared.record.Mark.TheVariants.{Unread, Clean, Marked}
 use Rattle.flash.specs.declared.record.Pages.{Pages}
@@ -73,3 +73,23 @@ mark_read page b k =
     cond (page == 0) (record { mark0 = read_as k.mark0 b; mark1 = k.mark1; failed = k.failed; pages = k.pages })
     (cond (page == 1) (record { mark0 = k.mark0; mark1 = read_as k.mark1 b; failed = k.failed; pages = k.pages })
     k)
+
+-- what is known of a block as text
+abbrev pub mark_name : Mark → List ℕ
+mark_name Unread = codes "unread"
+mark_name Clean = codes "clean"
+mark_name Marked = codes "marked"
+
+abbrev pub pages_text : Pages → List ℕ
+pages_text Stale = codes "stale"
+pages_text Blank = codes "blank"
+pages_text (Last p n) = codes "last " ++ (decimal p ++ (codes " count " ++ decimal n))
+
+abbrev health_name : Bool → List ℕ
+health_name true = codes "failed"
+health_name false = codes "sound"
+
+abbrev pub record_text : BlockRecord → List ℕ
+record_text k =
+    codes "record " ++ (mark_name k.mark0 ++ (codes " " ++ (mark_name k.mark1 ++ (codes " " ++ (health_name k.failed
+    ++ (codes " " ++ pages_text k.pages))))))

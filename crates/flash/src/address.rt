@@ -1,21 +1,22 @@
 // Columns and rows: numbers of their own kind, turned into address bytes only here.
-ghost use Rattle.std.specs.Prelude.{◌≡◌, ◌+◌, ◌*◌, ◌%◌, ◌^◌, ◌<◌, [], ◌∷◌};
+ghost use Rattle.std.specs.Prelude.{◌≡◌, ◌+◌, ◌*◌, ◌^◌, ◌<◌, [], ◌∷◌};
 ghost use Rattle.flash.specs.Addresses.{low_bytes, column_of, row_of, block_of, page_of, in_page, next_column, at_mark};
 
 use crate::geometry::{COLUMNS, MARK_COLUMN};
 
 /// Where a byte stands in its page.
-#[derive(Clone, Copy)]
+#[derive(Clone, Copy, Debug, PartialEq, Eq)]
 pub struct Column {
     number: u16,
 }
 
 /// A page of the chip: 64 times its block, and its page in the block.
-#[derive(Clone, Copy)]
+#[derive(Clone, Copy, Debug, PartialEq, Eq)]
 pub struct Row {
     number: u32,
 }
 
+// Functions by name and no From: a column or a row is made of a number only where that is said.
 impl Column {
     /// The first column of a page.
     pub const FIRST: Column = Column { number: 0 };
@@ -29,8 +30,7 @@ impl Column {
     pub fn number(self) -> u16
         ensures { result ≡ self.number }
     {
-        let Column { number: plain } = self;
-        plain
+        self.number
     }
 
     /// Whether the page has this column.
@@ -45,9 +45,7 @@ impl Column {
         ensures { result ≡ next_column self }
     {
         if self.is_in_page() {
-            Column {
-                number: self.number + 1,
-            }
+            Column::new(self.number + 1)
         } else {
             self
         }
@@ -73,17 +71,12 @@ impl Column {
         ensures { result ≡ column_of (low ∷ high ∷ []) }
     {
         Column {
-            number: u16::from(low) + 256 * u16::from(high),
+            number: u16::from_le_bytes([low, high]),
         }
     }
 }
 
-fn low_byte(number: u32) -> u8
-    ensures { result ≡ number % 256 }
-{
-    (number % 256) as u8
-}
-
+// By name too, for the same reason.
 impl Row {
     /// The row of a page of a block; a page above 63 lies in a later block.
     pub fn new(block: u16, page: u8) -> Row
@@ -98,8 +91,7 @@ impl Row {
     pub fn number(self) -> u32
         ensures { result ≡ self.number }
     {
-        let Row { number: rows } = self;
-        rows
+        self.number
     }
 
     pub fn block(self) -> u32
@@ -122,8 +114,8 @@ impl Row {
     {
         let mut bytes = [0; N];
         let mut rest = self.number;
-        for byte in bytes.iter_mut() {
-            *byte = low_byte(rest);
+        for byte in &mut bytes {
+            *byte = (rest % 256) as u8;
             rest /= 256;
         }
         bytes
@@ -134,7 +126,7 @@ impl Row {
         ensures { result ≡ row_of (low ∷ middle ∷ high ∷ []) }
     {
         Row {
-            number: u32::from(low) + 256 * (u32::from(middle) + 256 * u32::from(high)),
+            number: u32::from_le_bytes([low, middle, high, 0]),
         }
     }
 }

@@ -1,12 +1,16 @@
 // Why a call is turned away.
-ghost use Rattle.std.specs.Prelude.{◌≡◌};
-ghost use Rattle.flash.specs.Faults.{number_of, place_of, concerned, concerned_with, block_concerned, page_concerned};
+ghost use Rattle.std.specs.Prelude.{◌≡◌, Some};
+ghost use Rattle.flash.specs.Faults.{number_of, place_of, place_name, concerned, block_in, page_in, block_concerned, page_concerned, fault_text};
+ghost use Rattle.flash.specs.declared.fault.Fault.TheVariants.{UnknownPart};
 
 use crate::page::Page;
+use crate::part::UnknownIdentity;
+use std::error::Error;
+use std::fmt;
 
 /// Where a call is turned away: before anything is put at state, arguments, record and port, and
 /// after some of its cycles at the chip.
-#[derive(Clone, Copy)]
+#[derive(Clone, Copy, Debug, PartialEq, Eq)]
 pub enum Place {
     State,
     Arguments,
@@ -17,7 +21,7 @@ pub enum Place {
 
 /// One variant for each refusal, in the order in which they are tried, with the block and page
 /// concerned where there is one.
-#[derive(Clone, Copy)]
+#[derive(Clone, Copy, Debug, PartialEq, Eq)]
 pub enum Fault {
     /// The chip did not become ready, and no reset has succeeded since.
     Stuck,
@@ -50,20 +54,30 @@ pub enum Fault {
     WorkProtected(Page),
 }
 
-// What a fault concerns.
+// What a fault concerns: a block alone, or a page of a block.
 #[derive(Clone, Copy)]
 enum Concern {
-    Nothing,
     Block(u16),
     One(Page),
 }
 
-fn concern_with(page: Option<Page>) -> Concern
-    ensures { result ≡ concerned_with page }
-{
-    match page {
-        Some(page) => Concern::One(page),
-        None => Concern::Nothing,
+impl Concern {
+    fn block(self) -> u16
+        ensures { result ≡ block_in self }
+    {
+        match self {
+            Concern::Block(block) => block,
+            Concern::One(page) => page.block,
+        }
+    }
+
+    fn page(self) -> Option<u8>
+        ensures { result ≡ page_in self }
+    {
+        match self {
+            Concern::Block(_) => None,
+            Concern::One(page) => Some(page.page),
+        }
     }
 }
 
@@ -72,6 +86,7 @@ impl Fault {
     pub fn number(self) -> u8
         ensures { result ≡ number_of self }
     {
+        // Variants that carry a page have no number of their own to cast.
         match self {
             Fault::Stuck => 1,
             Fault::SlipOut => 2,
@@ -96,16 +111,25 @@ impl Fault {
     pub fn place(self) -> Place
         ensures { result ≡ place_of self }
     {
-        match self.number() {
-            0..=4 => Place::State,
-            5..=7 => Place::Arguments,
-            8..=12 => Place::Record,
-            13 => Place::Port,
-            _ => Place::Chip,
+        match self {
+            Fault::Stuck | Fault::SlipOut | Fault::WrongSlip | Fault::Identified => Place::State,
+            Fault::NoSuchBlock { .. } | Fault::NoSuchPage(_) | Fault::NoSuchSpan(_) => {
+                Place::Arguments
+            }
+            Fault::MarkUnread(_)
+            | Fault::UnfitBlock(_)
+            | Fault::StaleBlock(_)
+            | Fault::PageOrder(_)
+            | Fault::TooManyPrograms(_) => Place::Record,
+            Fault::NoRoom(_) => Place::Port,
+            Fault::Timeout(_)
+            | Fault::UnknownPart
+            | Fault::WorkFailed(_)
+            | Fault::WorkProtected(_) => Place::Chip,
         }
     }
 
-    fn concern(self) -> Concern
+    fn concern(self) -> Option<Concern>
         ensures { result ≡ concerned self }
     {
         match self {
@@ -113,8 +137,8 @@ impl Fault {
             | Fault::SlipOut
             | Fault::WrongSlip
             | Fault::Identified
-            | Fault::UnknownPart => Concern::Nothing,
-            Fault::NoSuchBlock { block } => Concern::Block(block),
+            | Fault::UnknownPart => None,
+            Fault::NoSuchBlock { block } => Some(Concern::Block(block)),
             Fault::NoSuchPage(page)
             | Fault::NoSuchSpan(page)
             | Fault::MarkUnread(page)
@@ -123,8 +147,8 @@ impl Fault {
             | Fault::PageOrder(page)
             | Fault::TooManyPrograms(page)
             | Fault::WorkFailed(page)
-            | Fault::WorkProtected(page) => Concern::One(page),
-            Fault::NoRoom(page) | Fault::Timeout(page) => concern_with(page),
+            | Fault::WorkProtected(page) => Some(Concern::One(page)),
+            Fault::NoRoom(page) | Fault::Timeout(page) => page.map(Concern::One),
         }
     }
 
@@ -132,20 +156,56 @@ impl Fault {
     pub fn block(self) -> Option<u16>
         ensures { result ≡ block_concerned self }
     {
-        match self.concern() {
-            Concern::Nothing => None,
-            Concern::Block(block) => Some(block),
-            Concern::One(page) => Some(page.block),
-        }
+        self.concern().map(Concern::block)
     }
 
     /// The page concerned, if there is one.
     pub fn page(self) -> Option<u8>
         ensures { result ≡ page_concerned self }
     {
-        match self.concern() {
-            Concern::Nothing | Concern::Block(_) => None,
-            Concern::One(page) => Some(page.page),
-        }
+        self.concern().and_then(Concern::page)
     }
 }
+
+/// An identity of neither part is refused.
+impl From<UnknownIdentity> for Fault {
+    ghost from_gives = { λ _ fault. fault ≡ UnknownPart };
+
+    fn from(_unknown: UnknownIdentity) -> Self {
+        Self::UnknownPart
+    }
+}
+
+impl fmt::Display for Place {
+    ghost output = { λ place. Some (place_name place) };
+
+    fn fmt<W: fmt::Write>(&self, f: &mut fmt::Formatter<W>) -> fmt::Result {
+        f.write_str(match self {
+            Place::State => "state",
+            Place::Arguments => "arguments",
+            Place::Record => "record",
+            Place::Port => "port",
+            Place::Chip => "chip",
+        })
+    }
+}
+
+/// The refusal's number and place, and the block and page concerned where there is one.
+impl fmt::Display for Fault {
+    ghost output = { λ fault. Some (fault_text fault) };
+
+    fn fmt<W: fmt::Write>(&self, f: &mut fmt::Formatter<W>) -> fmt::Result {
+        let number = self.number();
+        let place = self.place();
+        write!(f, "refused {number} {place}")?;
+        if let Some(block) = self.block() {
+            write!(f, " block {block}")?;
+        }
+        if let Some(page) = self.page() {
+            write!(f, " page {page}")?;
+        }
+        Ok(())
+    }
+}
+
+impl Error for Fault {}

@@ -5,7 +5,7 @@ ghost use Rattle.flash.specs.Addresses.{row_at};
 use crate::address::Row;
 
 /// Any block and any page, also such as the part does not have.
-#[derive(Clone, Copy)]
+#[derive(Clone, Copy, Debug, PartialEq, Eq)]
 pub struct Page {
     pub block: u16,
     pub page: u8,

@@ -1,36 +1,24 @@
 // The two parts, and the five bytes by which a chip says which one it is.
-ghost use Rattle.std.specs.Prelude.{◌≡◌};
-ghost use Rattle.std.specs.Str.{bytes_eq};
-ghost use Rattle.flash.specs.Parts.{blocks_of, address_cycles, programs_allowed, identity_of, identified, ToldBy};
+ghost use Rattle.std.specs.Prelude.{◌≡◌, Some, codes};
+ghost use Rattle.std.specs.Result.{result_ok};
+ghost use Rattle.flash.specs.Parts.{blocks_of, address_cycles, programs_allowed, identity_of, identified, ToldBy, part_name};
 
-#[derive(Clone, Copy)]
+use std::error::Error;
+use std::fmt;
+
+#[derive(Clone, Copy, Debug, PartialEq, Eq)]
 pub enum Part {
     OneGbit,
     TwoGbit,
 }
 
+/// Five identity bytes that are of neither part.
+#[derive(Clone, Copy, Debug, PartialEq, Eq)]
+pub struct UnknownIdentity;
+
 pub const ONE_GBIT_ID: [u8; 5] = [0xC8, 0xD1, 0x80, 0x95, 0x42];
 
 pub const TWO_GBIT_ID: [u8; 5] = [0xC8, 0xDA, 0x90, 0x95, 0x44];
-
-/// Whether two times five bytes are the same.
-pub fn same_five(a: [u8; 5], b: [u8; 5]) -> bool
-    ensures { result ≡ bytes_eq a b }
-{
-    a == b
-}
-
-fn named(bytes: [u8; 5]) -> Option<Part>
-    ensures { result ≡ identified bytes }
-{
-    if same_five(bytes, ONE_GBIT_ID) {
-        Some(Part::OneGbit)
-    } else if same_five(bytes, TWO_GBIT_ID) {
-        Some(Part::TwoGbit)
-    } else {
-        None
-    }
-}
 
 impl Part {
     /// How many blocks the part has.
@@ -72,12 +60,43 @@ impl Part {
             Part::TwoGbit => TWO_GBIT_ID,
         }
     }
+}
 
-    /// The part with these five identity bytes, if there is one: all five count.
-    pub fn of_identity(bytes: [u8; 5]) -> Option<Part>
-        ensures value { result ≡ identified bytes }
-        ensures told { ToldBy result bytes }
+/// The part with these five identity bytes, if there is one: all five count.
+impl TryFrom<[u8; 5]> for Part {
+    type Error = UnknownIdentity;
+
+    ghost try_from_gives = { λ bytes r. result_ok r ≡ identified bytes };
+
+    fn try_from(bytes: [u8; 5]) -> Result<Part, UnknownIdentity>
+        ensures value { result_ok result ≡ identified bytes }
+        ensures told { ToldBy (result_ok result) bytes }
     {
-        named(bytes)
+        match bytes {
+            ONE_GBIT_ID => Ok(Part::OneGbit),
+            TWO_GBIT_ID => Ok(Part::TwoGbit),
+            _ => Err(UnknownIdentity),
+        }
     }
 }
+
+impl fmt::Display for Part {
+    ghost output = { λ part. Some (part_name part) };
+
+    fn fmt<W: fmt::Write>(&self, f: &mut fmt::Formatter<W>) -> fmt::Result {
+        f.write_str(match self {
+            Part::OneGbit => "1G",
+            Part::TwoGbit => "2G",
+        })
+    }
+}
+
+impl fmt::Display for UnknownIdentity {
+    ghost output = { λ _. Some (codes "unknown identity") };
+
+    fn fmt<W: fmt::Write>(&self, f: &mut fmt::Formatter<W>) -> fmt::Result {
+        f.write_str("unknown identity")
+    }
+}
+
+impl Error for UnknownIdentity {}

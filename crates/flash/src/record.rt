@@ -1,11 +1,12 @@
 // What is known of one block, how work on it changes that, and whether work on it is allowed.
-ghost use Rattle.std.specs.Prelude.{◌≡◌};
-ghost use Rattle.flash.specs.Records.{clean, fit, out_of_order, programmed_out, pages_after, stale, programmed, program_ended, erase_ended, read_as, mark_read};
+ghost use Rattle.std.specs.Prelude.{◌≡◌, Some};
+ghost use Rattle.flash.specs.Records.{fit, out_of_order, programmed_out, pages_after, stale, programmed, program_ended, erase_ended, read_as, mark_read, mark_name, pages_text, record_text};
 
 use crate::status::Verdict;
+use std::fmt;
 
 /// A factory mark: not yet read, read as FFh, or read as anything else.
-#[derive(Clone, Copy)]
+#[derive(Clone, Copy, Debug, PartialEq, Eq)]
 pub enum Mark {
     Unread,
     Clean,
@@ -15,14 +16,15 @@ pub enum Mark {
 /// The pages of a block. Stale: nothing is known of them, since the block was not seen erased.
 /// Blank and Last are a fresh block, one that was erased in our sight: without a page programmed
 /// since, or with the highest page programmed since and how often it was.
-#[derive(Clone, Copy)]
+#[derive(Clone, Copy, Debug, PartialEq, Eq)]
 pub enum Pages {
     Stale,
     Blank,
     Last { page: u8, count: u8 },
 }
 
-#[derive(Clone, Copy)]
+// Two marks by name and no array: the laws speak of each by itself.
+#[derive(Clone, Copy, Debug, PartialEq, Eq)]
 pub struct BlockRecord {
     pub mark0: Mark,
     pub mark1: Mark,
@@ -30,25 +32,16 @@ pub struct BlockRecord {
     pub pages: Pages,
 }
 
-fn is_clean(mark: Mark) -> bool
-    ensures { result ≡ clean mark }
-{
-    match mark {
-        Mark::Clean => true,
-        _ => false,
-    }
-}
-
-fn read_mark(mark: Mark, byte: u8) -> Mark
-    ensures { result ≡ read_as mark byte }
-{
-    match mark {
-        Mark::Unread => if byte == 0xFF {
-            Mark::Clean
-        } else {
-            Mark::Marked
-        },
-        _ => mark,
+impl Mark {
+    // The first byte read decides the mark.
+    fn read(self, byte: u8) -> Mark
+        ensures { result ≡ read_as self byte }
+    {
+        match self {
+            Mark::Unread if byte == 0xFF => Mark::Clean,
+            Mark::Unread => Mark::Marked,
+            Mark::Clean | Mark::Marked => self,
+        }
     }
 }
 
@@ -68,10 +61,7 @@ impl Pages {
     pub fn programmed_out(self, allowed: u8, page: u8) -> bool
         ensures { result ≡ programmed_out allowed self page }
     {
-        match self {
-            Pages::Last { page: last, count } => page == last && allowed <= count,
-            _ => false,
-        }
+        matches!(self, Pages::Last { page: last, count } if page == last && allowed <= count)
     }
 
     fn after(self, allowed: u8, page: u8) -> Pages
@@ -80,18 +70,12 @@ impl Pages {
         match self {
             Pages::Stale => Pages::Stale,
             Pages::Blank => Pages::Last { page, count: 1 },
-            Pages::Last { page: last, count } => {
-                if page < last {
-                    self
-                } else if page == last {
-                    Pages::Last {
-                        page,
-                        count: if count < allowed { count + 1 } else { allowed },
-                    }
-                } else {
-                    Pages::Last { page, count: 1 }
-                }
-            }
+            Pages::Last { page: last, .. } if page < last => self,
+            Pages::Last { page: last, count } if page == last => Pages::Last {
+                page,
+                count: count.saturating_add(1).min(allowed),
+            },
+            Pages::Last { .. } => Pages::Last { page, count: 1 },
         }
     }
 }
@@ -109,7 +93,7 @@ impl BlockRecord {
     pub fn is_fit(&self) -> bool
         ensures { result ≡ fit self.now }
     {
-        !self.failed && is_clean(self.mark0) && is_clean(self.mark1)
+        !self.failed && self.mark0 == Mark::Clean && self.mark1 == Mark::Clean
     }
 
     /// Nothing is known of the pages any more.
@@ -130,9 +114,8 @@ impl BlockRecord {
     pub fn end_program(&mut self, verdict: Verdict)
         ensures { self.new ≡ program_ended verdict self.old }
     {
-        match verdict {
-            Verdict::Failed => self.failed = true,
-            Verdict::Good | Verdict::Protected => {}
+        if verdict == Verdict::Failed {
+            self.failed = true;
         }
     }
 
@@ -152,9 +135,46 @@ impl BlockRecord {
         ensures { self.new ≡ mark_read page byte self.old }
     {
         match page {
-            0 => self.mark0 = read_mark(self.mark0, byte),
-            1 => self.mark1 = read_mark(self.mark1, byte),
+            0 => self.mark0 = self.mark0.read(byte),
+            1 => self.mark1 = self.mark1.read(byte),
             _ => {}
         }
+    }
+}
+
+impl fmt::Display for Mark {
+    ghost output = { λ mark. Some (mark_name mark) };
+
+    fn fmt<W: fmt::Write>(&self, f: &mut fmt::Formatter<W>) -> fmt::Result {
+        f.write_str(match self {
+            Mark::Unread => "unread",
+            Mark::Clean => "clean",
+            Mark::Marked => "marked",
+        })
+    }
+}
+
+impl fmt::Display for Pages {
+    ghost output = { λ pages. Some (pages_text pages) };
+
+    fn fmt<W: fmt::Write>(&self, f: &mut fmt::Formatter<W>) -> fmt::Result {
+        match self {
+            Pages::Stale => f.write_str("stale"),
+            Pages::Blank => f.write_str("blank"),
+            Pages::Last { page, count } => write!(f, "last {page} count {count}"),
+        }
+    }
+}
+
+impl fmt::Display for BlockRecord {
+    ghost output = { λ block. Some (record_text block) };
+
+    fn fmt<W: fmt::Write>(&self, f: &mut fmt::Formatter<W>) -> fmt::Result {
+        let health = if self.failed { "failed" } else { "sound" };
+        write!(
+            f,
+            "record {} {} {health} {}",
+            self.mark0, self.mark1, self.pages
+        )
     }
 }

@@ -3,7 +3,7 @@ ghost use Rattle.std.specs.Prelude.{◌≡◌};
 ghost use Rattle.flash.specs.Statuses.{ready, verdict_of};
 
 /// What a status byte says of work that has ended.
-#[derive(Clone, Copy)]
+#[derive(Clone, Copy, Debug, PartialEq, Eq)]
 pub enum Verdict {
     Good,
     Failed,
@@ -17,11 +17,11 @@ pub fn is_ready(status: u8) -> bool
     status & 0x40 != 0
 }
 
-impl Verdict {
-    /// Bit 0 first: the work failed. Then bit 7: clear, the chip was protected.
-    pub fn of(status: u8) -> Verdict
-        ensures { result ≡ verdict_of status }
-    {
+/// Bit 0 first: the work failed. Then bit 7: clear, the chip was protected.
+impl From<u8> for Verdict {
+    ghost from_gives = { λ status verdict. verdict ≡ verdict_of status };
+
+    fn from(status: u8) -> Verdict {
         if status & 0x01 != 0 {
             Verdict::Failed
         } else if status & 0x80 != 0 {

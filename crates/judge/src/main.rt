@@ -11,47 +11,40 @@ mod tests;
 use events::teller::Teller;
 use flash::geometry::MOST_BLOCKS;
 use flash::record::BlockRecord;
-use judging::{Ending, Judging};
+use judging::{JudgeError, Judging};
 use std::fs::File;
 use std::io::{BufWriter, Read};
 use std::process::ExitCode;
 use std::{env, io};
 
-fn judge<R: Read>(rt: &HostRuntime, input: &mut R) -> io::Result<Ending> {
+fn judge<R: Read>(rt: &HostRuntime, input: &mut R) -> Result<(), JudgeError> {
     let mut blocks = [BlockRecord::FIRST; MOST_BLOCKS];
     let teller = Teller::new(rt.alloc(), &mut blocks);
     Judging::new(rt.alloc(), teller, BufWriter::new(rt.alloc(), rt.stdout())?).run(input)
 }
 
-fn judge_input(rt: &HostRuntime) -> io::Result<ExitCode> {
-    match judge(rt, &mut rt.stdin())? {
-        Ending::Whole => Ok(ExitCode::SUCCESS),
-        Ending::NotACycle { line } => {
-            eprintln!(rt; "line {line}: not a cycle")?;
-            Ok(ExitCode::FAILURE)
-        }
+// Standard input has no name.
+fn judge_log<R: Read>(rt: &HostRuntime, name: Option<&str>, input: &mut R) -> io::Result<ExitCode> {
+    let Err(error) = judge(rt, input) else {
+        return Ok(ExitCode::SUCCESS);
+    };
+    match (error, name) {
+        (JudgeError::Io(error), _) => return Err(error),
+        (error, Some(name)) => eprintln!(rt; "{name}: {error}")?,
+        (error, None) => eprintln!(rt; "{error}")?,
     }
+    Ok(ExitCode::FAILURE)
 }
 
-fn judge_file(rt: &HostRuntime, name: &String, file: &mut File) -> io::Result<ExitCode> {
-    match judge(rt, file)? {
-        Ending::Whole => Ok(ExitCode::SUCCESS),
-        Ending::NotACycle { line } => {
-            eprintln!(rt; "{name}: line {line}: not a cycle")?;
-            Ok(ExitCode::FAILURE)
-        }
-    }
-}
-
-fn judge_named(rt: &HostRuntime, name: &String) -> io::Result<ExitCode> {
-    if name.as_str() == "-" {
+fn judge_named(rt: &HostRuntime, name: &str) -> io::Result<ExitCode> {
+    if name == "-" {
         println!(rt; "# {name}")?;
-        return judge_input(rt);
+        return judge_log(rt, None, &mut rt.stdin());
     }
-    match File::open(rt, name.as_str()) {
+    match File::open(rt, name) {
         Ok(mut file) => {
             println!(rt; "# {name}")?;
-            judge_file(rt, name, &mut file)
+            judge_log(rt, Some(name), &mut file)
         }
         Err(error) => {
             eprintln!(rt; "{name}: {error}")?;
@@ -61,17 +54,15 @@ fn judge_named(rt: &HostRuntime, name: &String) -> io::Result<ExitCode> {
 }
 
 fn main(rt: HostRuntime) -> io::Result<ExitCode> {
-    let mut named = false;
-    for name in env::args(&rt)?.skip(1) {
-        named = true;
-        let code = judge_named(&rt, &name)?;
+    let mut names = env::args(&rt)?.skip(1).peekable();
+    if names.peek().is_none() {
+        return judge_log(&rt, None, &mut rt.stdin());
+    }
+    for name in names {
+        let code = judge_named(&rt, name.as_str())?;
         if code != ExitCode::SUCCESS {
             return Ok(code);
         }
     }
-    if named {
-        Ok(ExitCode::SUCCESS)
-    } else {
-        judge_input(&rt)
-    }
+    Ok(ExitCode::SUCCESS)
 }

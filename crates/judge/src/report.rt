@@ -1,55 +1,35 @@
 // The report on a log: a line for each thing told.
 use bus::act::Confirm;
-use bus::breach::Breach;
-use bus::state::{BusState, Busy};
+use bus::state::{BusState, PageRead, Work};
+use bus_log::hex::Hex;
 use events::event::Event;
 use flash::address::{Column, Row};
 use flash::part::Part;
 use std::io::Write;
 use std::{fmt, io};
 
-// Bytes as two hexadecimal digits each, a space before each.
-#[derive(Drop)]
-struct Hex<'a>(&'a [u8]);
-
-impl fmt::Display for Hex<'_> {
-    fn fmt<W: fmt::Write>(&self, f: &mut fmt::Formatter<W>) -> fmt::Result {
-        for byte in self.0 {
-            let byte = *byte;
-            write!(f, " {byte:02X}")?;
-        }
-        Ok(())
-    }
-}
-
-// Where a page begins to be read or programmed.
+// Where a page begins to be read or programmed. A type of its own: the text is the report's alone.
 #[derive(Drop)]
 struct Place(Row, Column);
 
 impl fmt::Display for Place {
     fn fmt<W: fmt::Write>(&self, f: &mut fmt::Formatter<W>) -> fmt::Result {
-        let block = self.0.block();
-        let page = self.0.page();
-        let column = self.1.number();
+        let Place(row, column) = self;
+        let (block, page, column) = (row.block(), row.page(), column.number());
         write!(f, "block {block} page {page} column {column}")
     }
 }
 
-fn part_name(part: Option<Part>) -> &'static str {
-    match part {
-        Some(Part::OneGbit) => "1G",
-        Some(Part::TwoGbit) => "2G",
-        None => "unknown",
-    }
-}
+// The part that a chip says it is, if there is one. A type of its own: an `Option` has no `Display`.
+#[derive(Drop)]
+struct PartName(Option<Part>);
 
-fn breach_name(breach: Breach) -> &'static str {
-    match breach {
-        Breach::WhileBusy => "while busy",
-        Breach::OutOfPlace => "out of place",
-        Breach::UnfitBlock => "unfit block",
-        Breach::PageOrder => "page order",
-        Breach::TooManyPrograms => "too many programs",
+impl fmt::Display for PartName {
+    fn fmt<W: fmt::Write>(&self, f: &mut fmt::Formatter<W>) -> fmt::Result {
+        match self.0 {
+            Some(part) => write!(f, "{part}"),
+            None => write!(f, "unknown"),
+        }
     }
 }
 
@@ -67,8 +47,7 @@ impl<W: Write + Drop> Report<W> {
     }
 
     fn close_line(&mut self) -> io::Result<()> {
-        if self.open.is_some() {
-            self.open = None;
+        if self.open.take().is_some() {
             writeln!(self.out)?;
         }
         Ok(())
@@ -93,35 +72,26 @@ impl<W: Write + Drop> Report<W> {
 
     /// One thing told.
     pub fn event(&mut self, event: &Event) -> io::Result<()> {
-        if let Event::Data { cycle, byte } = event {
-            return self.data(*cycle, *byte);
+        if !matches!(event, Event::Data { .. }) {
+            self.close_line()?;
         }
-        self.close_line()?;
         match event {
-            Event::Breach { cycle, breach } => writeln!(
-                self.out,
-                "breach at cycle {cycle}: {}",
-                breach_name(*breach)
-            ),
+            Event::Breach { cycle, breach } => {
+                writeln!(self.out, "breach at cycle {cycle}: {breach}")
+            }
             Event::Reset => writeln!(self.out, "reset"),
             Event::Status { byte } => writeln!(self.out, "status {byte:02X}"),
             Event::Identity { bytes } => writeln!(
                 self.out,
                 "identity{} {}",
                 Hex(bytes),
-                part_name(Part::of_identity(*bytes))
+                PartName(Part::try_from(*bytes).ok())
             ),
-            Event::Read {
-                row,
-                column,
-                copy: false,
-            } => writeln!(self.out, "read {}", Place(*row, *column)),
-            Event::Read {
-                row,
-                column,
-                copy: true,
-            } => writeln!(self.out, "copy-read {}", Place(*row, *column)),
-            Event::Data { .. } => Ok(()),
+            Event::Read(PageRead { row, column, copy }) => {
+                let what = if *copy { "copy-read" } else { "read" };
+                writeln!(self.out, "{what} {}", Place(*row, *column))
+            }
+            Event::Data { cycle, byte } => self.data(*cycle, *byte),
             Event::Erase { block } => writeln!(self.out, "erase block {block}"),
             Event::Program {
                 row,
@@ -135,10 +105,16 @@ impl<W: Write + Drop> Report<W> {
     /// The last lines: the part, what is under way, how many breaches.
     pub fn end(&mut self, bus: &BusState) -> io::Result<()> {
         self.close_line()?;
-        writeln!(self.out, "part {}", part_name(bus.part))?;
+        writeln!(self.out, "part {}", PartName(bus.part))?;
         match (bus.busy, bus.chain) {
-            (Busy::Program { block }, _) => writeln!(self.out, "under way: program block {block}")?,
-            (Busy::Erase { block }, _) => writeln!(self.out, "under way: erase block {block}")?,
+            (Some(Work::Program { block }), _) => writeln!(
+                self.out,
+                "under way: program block {block}"
+            )?,
+            (Some(Work::Erase { block }), _) => writeln!(
+                self.out,
+                "under way: erase block {block}"
+            )?,
             (_, Some(block)) => writeln!(self.out, "under way: chain block {block}")?,
             (_, None) => writeln!(self.out, "under way: nothing")?,
         }

@@ -1,5 +1,6 @@
 // Reports on short logs, whole and broken off.
-use crate::judging::{Ending, Judging};
+use crate::judging::{JudgeError, Judging};
+use bus_log::log_reader::LogError;
 use events::teller::Teller;
 use flash::record::BlockRecord;
 use std::alloc::Global;
@@ -9,69 +10,70 @@ const NOTHING: &str = "part unknown\nunder way: nothing\nbreaches 0\n";
 
 const RESET: &str = "reset\npart unknown\nunder way: nothing\nbreaches 0\n";
 
-// A log, its report, and the line that ends it, or 0.
+// A log, its report, and the line that ends it, if it is no cycle.
 struct Case {
     log: &'static [u8],
     report: &'static str,
-    line: u64,
+    line: Option<u64>,
 }
 
 const CASES: [Case; 9] = [
     Case {
         log: b"",
         report: NOTHING,
-        line: 0,
+        line: None,
     },
     Case {
         log: b"\n# a comment\n \t\r\n",
         report: NOTHING,
-        line: 0,
+        line: None,
     },
     Case {
         log: b" 0ff\t\r\n",
         report: RESET,
-        line: 0,
+        line: None,
     },
     Case {
         log: b"0FF",
         report: RESET,
-        line: 0,
+        line: None,
     },
     Case {
         log: b"0FF\n\n#\nhello\n0FF\n",
         report: RESET,
-        line: 4,
+        line: Some(4),
     },
     Case {
         log: b"\xFF\xFE\n",
         report: NOTHING,
-        line: 1,
+        line: Some(1),
     },
     Case {
         log: b"0FF\n4FF\n",
         report: RESET,
-        line: 2,
+        line: Some(2),
     },
     Case {
         log: b"0FFF",
         report: NOTHING,
-        line: 1,
+        line: Some(1),
     },
     Case {
         log: b"0 FF\n",
         report: NOTHING,
-        line: 1,
+        line: Some(1),
     },
 ];
 
-fn judged(heap: Global, log: &[u8], out: &mut Vec<u8>) -> Result<u64, Fail> {
+fn judged(heap: Global, log: &[u8], out: &mut Vec<u8>) -> Result<Option<u64>, Fail> {
     let mut blocks = [BlockRecord::FIRST; 8];
     let teller = Teller::new(heap, &mut blocks);
     let mut input = log;
     let mut judging = Judging::new(heap, teller, out);
-    match judging.run(&mut input)? {
-        Ending::Whole => Ok(0),
-        Ending::NotACycle { line } => Ok(line),
+    match judging.run(&mut input) {
+        Ok(()) => Ok(None),
+        Err(JudgeError::Log(LogError::NotACycle { line })) => Ok(Some(line)),
+        Err(error) => Err(error.into()),
     }
 }
 

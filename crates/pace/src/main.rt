@@ -10,9 +10,9 @@ use flash::geometry::MOST_BLOCKS;
 use flash::record::BlockRecord;
 use std::time::Instant;
 use std::{env, io};
-use take::take;
+use take::Take;
 
-#[derive(Clone, Copy)]
+#[derive(Clone, Copy, Default)]
 struct Kinds {
     commands: u64,
     addresses: u64,
@@ -20,13 +20,9 @@ struct Kinds {
     bytes_out: u64,
 }
 
+// One bare loop and no filter for each kind: the reader's speed is held against it.
 fn count_kinds(cycles: &[Cycle]) -> Kinds {
-    let mut kinds = Kinds {
-        commands: 0,
-        addresses: 0,
-        bytes_in: 0,
-        bytes_out: 0,
-    };
+    let mut kinds = Kinds::default();
     for cycle in cycles {
         match cycle.kind {
             Kind::Command => kinds.commands = kinds.commands.wrapping_add(1),
@@ -48,35 +44,34 @@ fn report(rt: &HostRuntime, kinds: Kinds, breaches: u16) -> io::Result<()> {
 
 // Cycles a second, from the time that they took.
 fn rate(cycles: usize, micros: u128) -> u128 {
-    if micros == 0 {
-        0
-    } else {
-        cycles as u128 * 1_000_000 / micros
-    }
+    (cycles as u128 * 1_000_000)
+        .checked_div(micros)
+        .unwrap_or(0)
 }
 
-fn timed(rt: &HostRuntime) -> io::Result<bool> {
-    for word in env::args(rt)?.skip(1) {
-        if word.as_str() == "time" {
-            return Ok(true);
-        }
-    }
-    Ok(false)
+// What the work gives, and the microseconds that it took.
+fn timed<T: Drop, W: FnOnce() -> T>(rt: &HostRuntime, work: W) -> io::Result<(T, u128)>
+    requires { W.IsAlwaysCallable work }
+{
+    let start = Instant::now(rt)?;
+    let done = work();
+    Ok((done, start.elapsed(rt)?.as_micros()))
+}
+
+fn is_timed(rt: &HostRuntime) -> io::Result<bool> {
+    Ok(env::args(rt)?.skip(1).any(|word| word.as_str() == "time"))
 }
 
 fn main(rt: HostRuntime) -> io::Result<()> {
-    let mut cycles = Vec::new(rt.alloc());
-    take(&mut cycles, 40)?;
-    let start = Instant::now(&rt)?;
-    let kinds = count_kinds(cycles.as_slice());
-    let counted = start.elapsed(&rt)?.as_micros();
+    let mut take = Take::new(rt.alloc());
+    take.fill(40)?;
+    let cycles = take.cycles();
+    let (kinds, counted) = timed(&rt, || count_kinds(cycles))?;
     let mut blocks = [BlockRecord::FIRST; MOST_BLOCKS];
     let mut reader = BusReader::new(&mut blocks);
-    let start = Instant::now(&rt)?;
-    reader.read_all(cycles.as_slice());
-    let judged = start.elapsed(&rt)?.as_micros();
+    let ((), judged) = timed(&rt, || reader.read_all(cycles))?;
     report(&rt, kinds, reader.bus().breaches)?;
-    if timed(&rt)? {
+    if is_timed(&rt)? {
         println!(rt; "counted {} cycles a second", rate(cycles.len(), counted))?;
         println!(rt; "judged {} cycles a second", rate(cycles.len(), judged))?;
     }

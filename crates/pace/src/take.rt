@@ -4,88 +4,104 @@ use flash::cycle::{Cycle, Kind};
 use flash::geometry::{COLUMNS, MARK_COLUMN, PAGES};
 use flash::opcode::Opcode;
 use flash::part::Part;
-use std::alloc::AllocError;
+use std::alloc::{AllocError, Global};
 
 const BLOCK: u16 = 5;
 
-fn put(cycles: &mut Vec<Cycle>, kind: Kind, byte: u8) -> Result<(), AllocError> {
-    cycles.push(Cycle { kind, byte })?;
-    Ok(())
+#[derive(Drop)]
+pub struct Take {
+    cycles: Vec<Cycle>,
 }
 
-fn command(cycles: &mut Vec<Cycle>, opcode: Opcode) -> Result<(), AllocError> {
-    put(cycles, Kind::Command, opcode.byte())
-}
-
-fn each(cycles: &mut Vec<Cycle>, kind: Kind, bytes: &[u8]) -> Result<(), AllocError> {
-    for byte in bytes {
-        put(cycles, kind, *byte)?;
+impl Take {
+    /// No cycle yet.
+    pub fn new(heap: Global) -> Take {
+        Take {
+            cycles: Vec::new(heap),
+        }
     }
-    Ok(())
-}
 
-fn row(cycles: &mut Vec<Cycle>, page: u8) -> Result<(), AllocError> {
-    let bytes = Row::new(BLOCK, page).bytes::<2>();
-    each(cycles, Kind::Address, &bytes)
-}
-
-fn address(cycles: &mut Vec<Cycle>, page: u8, column: u16) -> Result<(), AllocError> {
-    let bytes = Column::new(column).bytes();
-    each(cycles, Kind::Address, &bytes)?;
-    row(cycles, page)
-}
-
-fn ready(cycles: &mut Vec<Cycle>) -> Result<(), AllocError> {
-    command(cycles, Opcode::ReadStatus)?;
-    put(cycles, Kind::DataOut, 0xC0)
-}
-
-fn clean_mark(cycles: &mut Vec<Cycle>, page: u8) -> Result<(), AllocError> {
-    command(cycles, Opcode::Read)?;
-    address(cycles, page, MARK_COLUMN)?;
-    command(cycles, Opcode::ReadConfirm)?;
-    ready(cycles)?;
-    command(cycles, Opcode::Read)?;
-    put(cycles, Kind::DataOut, 0xFF)
-}
-
-fn program_page(cycles: &mut Vec<Cycle>, page: u8) -> Result<(), AllocError> {
-    command(cycles, Opcode::Program)?;
-    address(cycles, page, 0)?;
-    for column in 0..COLUMNS {
-        put(cycles, Kind::DataIn, (column % 256) as u8)?;
+    pub fn cycles(&self) -> &[Cycle] {
+        self.cycles.as_slice()
     }
-    command(cycles, Opcode::ProgramConfirm)?;
-    ready(cycles)
-}
 
-fn fill_block(cycles: &mut Vec<Cycle>) -> Result<(), AllocError> {
-    command(cycles, Opcode::Erase)?;
-    row(cycles, 0)?;
-    command(cycles, Opcode::EraseConfirm)?;
-    ready(cycles)?;
-    for page in 0..PAGES {
-        program_page(cycles, page)?;
+    fn put(&mut self, kind: Kind, byte: u8) -> Result<(), AllocError> {
+        self.cycles.push(Cycle { kind, byte })?;
+        Ok(())
     }
-    Ok(())
-}
 
-fn identify(cycles: &mut Vec<Cycle>) -> Result<(), AllocError> {
-    command(cycles, Opcode::Reset)?;
-    ready(cycles)?;
-    command(cycles, Opcode::ReadId)?;
-    put(cycles, Kind::Address, 0)?;
-    let identity = Part::OneGbit.identity();
-    each(cycles, Kind::DataOut, &identity)
-}
-
-/// The cycles of a take that fills the block so many times.
-pub fn take(cycles: &mut Vec<Cycle>, times: u8) -> Result<(), AllocError> {
-    identify(cycles)?;
-    clean_mark(cycles, 0)?;
-    clean_mark(cycles, 1)?;
-    for _ in 0..times {
-        fill_block(cycles)?;
+    fn command(&mut self, opcode: Opcode) -> Result<(), AllocError> {
+        self.put(Kind::Command, opcode.into())
     }
-    Ok(())
+
+    fn each(&mut self, kind: Kind, bytes: &[u8]) -> Result<(), AllocError> {
+        self.cycles
+            .extend(bytes.iter().map(|byte| Cycle { kind, byte: *byte }))
+    }
+
+    fn row(&mut self, page: u8) -> Result<(), AllocError> {
+        let bytes = Row::new(BLOCK, page).bytes::<2>();
+        self.each(Kind::Address, &bytes)
+    }
+
+    fn address(&mut self, page: u8, column: u16) -> Result<(), AllocError> {
+        let bytes = Column::new(column).bytes();
+        self.each(Kind::Address, &bytes)?;
+        self.row(page)
+    }
+
+    fn ready(&mut self) -> Result<(), AllocError> {
+        self.command(Opcode::ReadStatus)?;
+        self.put(Kind::DataOut, 0xC0)
+    }
+
+    fn clean_mark(&mut self, page: u8) -> Result<(), AllocError> {
+        self.command(Opcode::Read)?;
+        self.address(page, MARK_COLUMN)?;
+        self.command(Opcode::ReadConfirm)?;
+        self.ready()?;
+        self.command(Opcode::Read)?;
+        self.put(Kind::DataOut, 0xFF)
+    }
+
+    fn program_page(&mut self, page: u8) -> Result<(), AllocError> {
+        self.command(Opcode::Program)?;
+        self.address(page, 0)?;
+        for column in 0..COLUMNS {
+            self.put(Kind::DataIn, (column % 256) as u8)?;
+        }
+        self.command(Opcode::ProgramConfirm)?;
+        self.ready()
+    }
+
+    fn fill_block(&mut self) -> Result<(), AllocError> {
+        self.command(Opcode::Erase)?;
+        self.row(0)?;
+        self.command(Opcode::EraseConfirm)?;
+        self.ready()?;
+        for page in 0..PAGES {
+            self.program_page(page)?;
+        }
+        Ok(())
+    }
+
+    fn identify(&mut self) -> Result<(), AllocError> {
+        self.command(Opcode::Reset)?;
+        self.ready()?;
+        self.command(Opcode::ReadId)?;
+        self.put(Kind::Address, 0)?;
+        let identity = Part::OneGbit.identity();
+        self.each(Kind::DataOut, &identity)
+    }
+
+    /// The opening of a take, then the block filled so many times.
+    pub fn fill(&mut self, times: u8) -> Result<(), AllocError> {
+        self.identify()?;
+        self.clean_mark(0)?;
+        self.clean_mark(1)?;
+        for _ in 0..times {
+            self.fill_block()?;
+        }
+        Ok(())
+    }
 }

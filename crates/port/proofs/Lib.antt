@@ -1,3 +1,1 @@
-mod Sendings
-mod TapeSteps
 pub mod Took

@@ -1,9 +1,11 @@
 // The interface of a port, and what it means.
-ghost use Rattle.std.specs.Prelude.{◌≡◌, ℕ, List, MatchResult};
+ghost use Rattle.std.specs.Prelude.{◌≡◌, ℕ, List, Some, MatchResult, codes};
 ghost use Rattle.flash.specs.declared.cycle.Cycle.{Cycle as TheCycle};
 ghost use Rattle.port.specs.Meanings.{Meaning, Stepped, Refused, host_kind, driven, gave};
 
 use flash::cycle::{Cycle, Kind};
+use std::error::Error;
+use std::fmt;
 
 /// The kinds of cycle that the host makes; only a take makes a byte out.
 #[derive(Clone, Copy)]
@@ -20,12 +22,11 @@ pub struct HostCycle {
     pub byte: u8,
 }
 
-impl HostKind {
-    /// The kind of the cycle on the bus.
-    pub fn kind(self) -> Kind
-        ensures { result ≡ host_kind self }
-    {
-        match self {
+impl From<HostKind> for Kind {
+    ghost from_gives = { λ k r. r ≡ host_kind k };
+
+    fn from(kind: HostKind) -> Kind {
+        match kind {
             HostKind::Command => Kind::Command,
             HostKind::Address => Kind::Address,
             HostKind::DataIn => Kind::DataIn,
@@ -33,21 +34,30 @@ impl HostKind {
     }
 }
 
-impl HostCycle {
-    /// The cycle on the bus.
-    pub fn cycle(self) -> Cycle
-        ensures { result ≡ driven self }
-    {
+impl From<HostCycle> for Cycle {
+    ghost from_gives = { λ c r. r ≡ driven c };
+
+    fn from(cycle: HostCycle) -> Cycle {
         Cycle {
-            kind: self.kind.kind(),
-            byte: self.byte,
+            kind: cycle.kind.into(),
+            byte: cycle.byte,
         }
     }
 }
 
 /// The port has no room for another cycle.
-#[derive(Clone, Copy)]
+#[derive(Clone, Copy, Debug)]
 pub struct Full;
+
+impl fmt::Display for Full {
+    ghost output = { λ _. Some (codes "the port has no room") };
+
+    fn fmt<W: fmt::Write>(&self, f: &mut fmt::Formatter<W>) -> fmt::Result {
+        write!(f, "the port has no room")
+    }
+}
+
+impl Error for Full {}
 
 /// A port means three things: what the bus reader holds after all its cycles; its room, the number of
 /// cycles that it can still take; and its trail, a list of numbers that each cycle moves by the fixed

@@ -10,8 +10,7 @@ pub fn send<P: Port>(port: &mut P, cycles: &[HostCycle]) -> Result<(), Full>
     ensures { MatchResult result (λ _. Took P.Port.moves (map driven cycles.now) (P.Port.meaning port.old) (P.Port.meaning port.new)) (λ _. SentFront P.Port.moves cycles.now (P.Port.meaning port.old) (P.Port.meaning port.new)) }
 {
     for cycle in cycles {
-        let HostCycle { kind, byte } = *cycle;
-        port.put(HostCycle { kind, byte })?;
+        port.put(*cycle)?;
     }
     Ok(())
 }

@@ -2,7 +2,6 @@
 use crate::logs::{columns, cycles_of};
 use crate::seen::Step;
 use crate::shown;
-use std::alloc::Global;
 use std::process::Abort;
 use std::test::*;
 
@@ -85,17 +84,16 @@ const TOO_MANY_PROGRAMS: [&str; 12] = [
 ];
 
 pub(crate) fn check_last(
-    rt: &impl Abort,
-    heap: Global,
+    rt: &(impl Abort + AllocGlobal),
     log: &str,
     expected: &str,
 ) -> Result<(), Fail> {
-    let mut cycles = cycles_of(heap, log)?;
+    let mut cycles = cycles_of(rt.alloc(), log)?;
     let last = cycles.pop().ok_or("an empty log")?;
     let step = Step::after(cycles.as_slice(), last);
-    step.check(rt, heap, log)?;
+    step.check(rt, log)?;
     assert_eq!(rt;
-        shown::broken(heap, step.breaches)?.as_str(),
+        shown::broken(rt.alloc(), step.breaches)?.as_str(),
         expected,
         "{}",
         log
@@ -103,18 +101,18 @@ pub(crate) fn check_last(
     Ok(())
 }
 
-pub(crate) fn check_rows(rt: &impl Abort, heap: Global, rows: &[&str]) -> Result<(), Fail> {
+pub(crate) fn check_rows(rt: &(impl Abort + AllocGlobal), rows: &[&str]) -> Result<(), Fail> {
     for row in rows {
         let (log, expected) = columns(row)?;
-        check_last(rt, heap, log, expected)?;
+        check_last(rt, log, expected)?;
     }
     Ok(())
 }
 
 #[test]
 fn each_breach_by_each_cause(rt: HostRuntime) -> Result<(), Fail> {
-    check_rows(&rt, rt.alloc(), &WHILE_BUSY)?;
-    check_rows(&rt, rt.alloc(), &UNFIT_BLOCK)?;
-    check_rows(&rt, rt.alloc(), &PAGE_ORDER)?;
-    check_rows(&rt, rt.alloc(), &TOO_MANY_PROGRAMS)
+    check_rows(&rt, &WHILE_BUSY)?;
+    check_rows(&rt, &UNFIT_BLOCK)?;
+    check_rows(&rt, &PAGE_ORDER)?;
+    check_rows(&rt, &TOO_MANY_PROGRAMS)
 }

@@ -58,12 +58,12 @@ const LAST_BLOCKS: [(&str, u32, &str); 6] = [
 
 #[test]
 fn edges_of_an_address(rt: HostRuntime) -> Result<(), Fail> {
-    check_rows(&rt, rt.alloc(), &EDGES)?;
+    check_rows(&rt, &EDGES)?;
     for (log, block, expected) in &LAST_BLOCKS {
         let cycles = cycles_of(rt.alloc(), log)?;
         let held = Held::after(cycles.as_slice(), *block);
         let at = format!(in rt.alloc(); "block {block} after {log}")?;
-        held.check_block(&rt, rt.alloc(), expected, at.as_str())?;
+        held.check_block(&rt, expected, at.as_str())?;
     }
     Ok(())
 }

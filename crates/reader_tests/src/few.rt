@@ -13,8 +13,7 @@ fn a_block_without_a_record(rt: HostRuntime) -> Result<(), Fail> {
     let mut reader = BusReader::new(&mut blocks);
     reader.read_all(cycles.as_slice());
     assert_eq!(rt; reader.bus().breaches, 1);
-    match (reader.block(2).pages, reader.block(5).pages) {
-        (Pages::Blank, Pages::Stale) => Ok(()),
-        _ => Err(Fail::new("block 2 fresh, block 5 stale")),
-    }
+    assert!(rt; reader.block(2).pages == Pages::Blank, "block 2 fresh");
+    assert!(rt; reader.block(5).pages == Pages::Stale, "block 5 stale");
+    Ok(())
 }

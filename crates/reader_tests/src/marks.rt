@@ -58,26 +58,26 @@ pub(crate) fn held_with(heap: Global, log: &str, byte: u8, later: &str) -> Resul
     Ok(Held::after(cycles.as_slice(), 2))
 }
 
-fn check_mark(rt: &impl Abort, heap: Global, read: MarkRead, byte: u8) -> Result<(), Fail> {
+fn check_mark(rt: &(impl Abort + AllocGlobal), read: MarkRead, byte: u8) -> Result<(), Fail> {
     let expected = if byte == 0xFF {
         read.clean
     } else {
         read.marked
     };
-    let at = format!(in heap; "{} 3{byte:02X}", read.log)?;
-    held_with(heap, read.log, byte, "")?.check_block(rt, heap, expected, at.as_str())?;
-    held_with(heap, read.log, byte, read.later)?.check_block(rt, heap, expected, at.as_str())
+    let at = format!(in rt.alloc(); "{} 3{byte:02X}", read.log)?;
+    held_with(rt.alloc(), read.log, byte, "")?.check_block(rt, expected, at.as_str())?;
+    held_with(rt.alloc(), read.log, byte, read.later)?.check_block(rt, expected, at.as_str())
 }
 
 #[test]
 fn each_byte_as_a_mark(rt: HostRuntime) -> Result<(), Fail> {
     for byte in 0..=255u8 {
         for read in &MARKS {
-            check_mark(&rt, rt.alloc(), *read, byte)?;
+            check_mark(&rt, *read, byte)?;
         }
         for log in &NO_MARKS {
             let held = held_with(rt.alloc(), log, byte, "")?;
-            held.check_block(&rt, rt.alloc(), "unread unread stale", log)?;
+            held.check_block(&rt, "unread unread stale", log)?;
         }
     }
     Ok(())

@@ -4,7 +4,6 @@ use crate::seen::Step;
 use crate::shown;
 use bus::breach::Breaches;
 use flash::cycle::{Cycle, Kind};
-use std::alloc::Global;
 use std::process::Abort;
 use std::test::*;
 
@@ -89,18 +88,8 @@ fn of_place(breaches: Breaches) -> Breaches {
     }
 }
 
-fn has(cycles: &[Cycle], byte: u8) -> bool {
-    for cycle in cycles {
-        if cycle.byte == byte {
-            return true;
-        }
-    }
-    false
-}
-
 fn check_command(
-    rt: &impl Abort,
-    heap: Global,
+    rt: &(impl Abort + AllocGlobal),
     log: &str,
     cycles: &[Cycle],
     byte: u8,
@@ -111,29 +100,28 @@ fn check_command(
         byte,
     };
     let step = Step::after(cycles, command);
-    let at = format!(in heap; "{log} 0{byte:02X}")?;
-    step.check(rt, heap, at.as_str())?;
-    let broken = shown::broken(heap, of_place(step.breaches))?;
+    let at = format!(in rt.alloc(); "{log} 0{byte:02X}")?;
+    step.check(rt, at.as_str())?;
+    let broken = shown::broken(rt.alloc(), of_place(step.breaches))?;
     assert_eq!(rt; broken.as_str(), expected, "{}", at);
     Ok(())
 }
 
 fn check_commands(
-    rt: &impl Abort,
-    heap: Global,
+    rt: &(impl Abort + AllocGlobal),
     log: &str,
     taken: &str,
     else_breaks: &str,
 ) -> Result<(), Fail> {
-    let cycles = cycles_of(heap, log)?;
-    let taken = cycles_of(heap, taken)?;
+    let cycles = cycles_of(rt.alloc(), log)?;
+    let taken = cycles_of(rt.alloc(), taken)?;
     for byte in 0..=255u8 {
-        let expected = if has(taken.as_slice(), byte) {
+        let expected = if taken.iter().any(|cycle| cycle.byte == byte) {
             "nothing"
         } else {
             else_breaks
         };
-        check_command(rt, heap, log, cycles.as_slice(), byte, expected)?;
+        check_command(rt, log, cycles.as_slice(), byte, expected)?;
     }
     Ok(())
 }
@@ -142,10 +130,10 @@ fn check_commands(
 fn each_command_in_each_phase(rt: HostRuntime) -> Result<(), Fail> {
     for row in &IDLE {
         let (log, taken) = columns(row)?;
-        check_commands(&rt, rt.alloc(), log, taken, "out of place")?;
+        check_commands(&rt, log, taken, "out of place")?;
     }
     for log in &BUSY {
-        check_commands(&rt, rt.alloc(), log, "070 0FF", "while busy")?;
+        check_commands(&rt, log, "070 0FF", "while busy")?;
     }
     Ok(())
 }

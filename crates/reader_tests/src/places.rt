@@ -92,7 +92,7 @@ const OUT_OF_PLACE: [&str; 74] = [
 #[test]
 fn each_cycle_that_is_out_of_place(rt: HostRuntime) -> Result<(), Fail> {
     for log in &OUT_OF_PLACE {
-        check_last(&rt, rt.alloc(), log, "out of place")?;
+        check_last(&rt, log, "out of place")?;
     }
     Ok(())
 }

@@ -7,7 +7,6 @@ use bus::state::BusState;
 use flash::cycle::Cycle;
 use flash::geometry::MOST_BLOCKS;
 use flash::record::{BlockRecord, Mark, Pages};
-use std::alloc::Global;
 use std::process::Abort;
 use std::test::*;
 
@@ -43,13 +42,12 @@ impl Held {
 
     pub(crate) fn check_block(
         &self,
-        rt: &impl Abort,
-        heap: Global,
+        rt: &(impl Abort + AllocGlobal),
         expected: &str,
         log: &str,
     ) -> Result<(), Fail> {
         assert_eq!(rt;
-            shown::block(heap, self.block)?.as_str(),
+            shown::block(rt.alloc(), self.block)?.as_str(),
             expected,
             "{}",
             log
@@ -60,37 +58,20 @@ impl Held {
     // Only the count of breaches may differ.
     fn check_same(
         &self,
-        rt: &impl Abort,
-        heap: Global,
+        rt: &(impl Abort + AllocGlobal),
         other: &Held,
         log: &str,
     ) -> Result<(), Fail> {
-        let bus = bus_text(heap, &other.bus)?;
+        let bus = bus_text(rt.alloc(), &other.bus)?;
         assert_eq!(rt;
-            bus_text(heap, &self.bus)?.as_str(),
+            bus_text(rt.alloc(), &self.bus)?.as_str(),
             bus.as_str(),
             "{}",
             log
         );
-        let block = shown::block(heap, other.block)?;
-        self.check_block(rt, heap, block.as_str(), log)
+        assert_eq!(rt; self.block, other.block, "{}", log);
+        Ok(())
     }
-}
-
-fn how_many(breaches: Breaches) -> u16 {
-    let mut count = 0u16;
-    for is_broken in [
-        breaches.while_busy,
-        breaches.out_of_place,
-        breaches.unfit_block,
-        breaches.page_order,
-        breaches.too_many_programs,
-    ] {
-        if is_broken {
-            count = count.saturating_add(1);
-        }
-    }
-    count
 }
 
 /// One cycle after others: what is held before and after it, and the rules that it breaks.
@@ -117,12 +98,17 @@ impl Step {
     }
 
     /// The breaches are counted, and a cycle that is not taken changes nothing else.
-    pub(crate) fn check(&self, rt: &impl Abort, heap: Global, log: &str) -> Result<(), Fail> {
+    pub(crate) fn check(&self, rt: &(impl Abort + AllocGlobal), log: &str) -> Result<(), Fail> {
         let breaches = self.breaches;
         if breaches.while_busy || breaches.out_of_place {
-            self.after.check_same(rt, heap, &self.before, log)?;
+            self.after.check_same(rt, &self.before, log)?;
         }
-        let count = self.before.bus.breaches.saturating_add(how_many(breaches));
+        let broken = breaches.rules().into_iter().flatten().count();
+        let count = self
+            .before
+            .bus
+            .breaches
+            .saturating_add(u16::try_from(broken)?);
         assert_eq!(rt; self.after.bus.breaches, count, "{}", log);
         Ok(())
     }

@@ -1,42 +1,25 @@
 // What the reader tells, and what it holds of a block and of the chip's work, as text.
 use bus::breach::Breaches;
-use bus::state::{BusState, Busy, Register};
+use bus::state::{BusState, PageRead, Work};
 use flash::address::{Column, Row};
 use flash::part::Part;
-use flash::record::{BlockRecord, Mark, Pages};
+use flash::record::{BlockRecord, Pages};
 use std::alloc::{AllocError, Global};
 
 pub(crate) fn broken(heap: Global, breaches: Breaches) -> Result<String, AllocError> {
-    let mut text = String::new(heap);
-    let rules = [
-        (breaches.while_busy, "while busy"),
-        (breaches.out_of_place, "out of place"),
-        (breaches.unfit_block, "unfit block"),
-        (breaches.page_order, "page order"),
-        (breaches.too_many_programs, "too many programs"),
-    ];
-    for (is_broken, rule) in rules {
-        if is_broken {
-            if !text.is_empty() {
-                text.push_str(", ")?;
-            }
-            text.push_str(rule)?;
-        }
+    let rules: Vec<String> = breaches
+        .rules()
+        .into_iter()
+        .flatten()
+        .map(|breach| breach.to_string(heap))
+        .try_collect(heap)?;
+    if rules.is_empty() {
+        return String::from_str(heap, "nothing");
     }
-    if text.is_empty() {
-        text.push_str("nothing")?;
-    }
-    Ok(text)
+    rules.as_slice().join(heap, ", ")
 }
 
-fn mark(mark: Mark) -> &'static str {
-    match mark {
-        Mark::Unread => "unread",
-        Mark::Clean => "clean",
-        Mark::Marked => "marked",
-    }
-}
-
+// In words of the tables: fresh is erased in sight.
 fn pages(heap: Global, pages: Pages) -> Result<String, AllocError> {
     match pages {
         Pages::Stale => format!(in heap; "stale"),
@@ -46,8 +29,7 @@ fn pages(heap: Global, pages: Pages) -> Result<String, AllocError> {
 }
 
 pub(crate) fn block(heap: Global, block: BlockRecord) -> Result<String, AllocError> {
-    let mark0 = mark(block.mark0);
-    let mark1 = mark(block.mark1);
+    let BlockRecord { mark0, mark1, .. } = block;
     let failed = if block.failed { " failed" } else { "" };
     let pages = pages(heap, block.pages)?;
     format!(in heap; "{mark0} {mark1}{failed} {pages}")
@@ -68,32 +50,38 @@ pub(crate) fn place(heap: Global, row: Row, column: Column) -> Result<String, Al
     format!(in heap; "block {block} page {page} column {column}")
 }
 
-pub(crate) fn register(heap: Global, register: Register) -> Result<String, AllocError> {
+fn page_read(heap: Global, read: PageRead) -> Result<String, AllocError> {
+    let place = place(heap, read.row, read.column)?;
+    let copy = if read.copy { " to copy" } else { "" };
+    format!(in heap; "{place}{copy}")
+}
+
+pub(crate) fn register(heap: Global, register: Option<PageRead>) -> Result<String, AllocError> {
     match register {
-        Register::Empty => format!(in heap; "empty"),
-        Register::Full { row, column, copy } => {
-            let place = place(heap, row, column)?;
-            let copy = if copy { " to copy" } else { "" };
-            format!(in heap; "{place}{copy}")
+        None => format!(in heap; "empty"),
+        Some(read) => page_read(heap, read),
+    }
+}
+
+fn busy(heap: Global, busy: Option<Work>) -> Result<String, AllocError> {
+    match busy {
+        None => format!(in heap; "nothing"),
+        Some(Work::Reset) => format!(in heap; "reset"),
+        Some(Work::Read(read)) => {
+            let page = page_read(heap, read)?;
+            format!(in heap; "read of {page}")
         }
+        Some(Work::CachePage) => format!(in heap; "cache page"),
+        Some(Work::Program { block }) => format!(in heap; "program of block {block}"),
+        Some(Work::Erase { block }) => format!(in heap; "erase of block {block}"),
     }
 }
 
 /// What is busy, and the chain.
 pub(crate) fn work(heap: Global, bus: &BusState) -> Result<String, AllocError> {
-    let chain = match bus.chain {
-        Some(block) => format!(in heap; " in a chain of block {block}")?,
-        None => String::new(heap),
-    };
-    match bus.busy {
-        Busy::Nothing => format!(in heap; "nothing{chain}"),
-        Busy::Reset => format!(in heap; "reset{chain}"),
-        Busy::Read { row, column, copy } => {
-            let page = register(heap, Register::Full { row, column, copy })?;
-            format!(in heap; "read of {page}{chain}")
-        }
-        Busy::CachePage => format!(in heap; "cache page{chain}"),
-        Busy::Program { block } => format!(in heap; "program of block {block}{chain}"),
-        Busy::Erase { block } => format!(in heap; "erase of block {block}{chain}"),
+    let mut text = busy(heap, bus.busy)?;
+    if let Some(block) = bus.chain {
+        write!(text, " in a chain of block {block}")?;
     }
+    Ok(text)
 }

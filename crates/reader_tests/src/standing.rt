@@ -1,4 +1,5 @@
-// All that the bus holds but the count of breaches, as text.
+// All that the bus holds but the count of breaches, as text: a comparison that fails shows both sides.
+// By hand: with equality and Debug derived, the reader's crate takes twice as long to check.
 use crate::shown;
 use bus::state::{BusState, Phase, Setup};
 use std::alloc::{AllocError, Global};

@@ -1,7 +1,6 @@
 // Each byte as a status.
 use crate::marks::held_with;
 use crate::shown;
-use std::alloc::Global;
 use std::process::Abort;
 use std::test::*;
 
@@ -68,7 +67,7 @@ const WORKS: [Work; 6] = [
     },
 ];
 
-fn check_status(rt: &impl Abort, heap: Global, work: Work, status: u8) -> Result<(), Fail> {
+fn check_status(rt: &(impl Abort + AllocGlobal), work: Work, status: u8) -> Result<(), Fail> {
     let is_ready = status / 64 % 2 == 1;
     let has_failed = status % 2 == 1;
     let is_unprotected = status / 128 == 1;
@@ -82,11 +81,11 @@ fn check_status(rt: &impl Abort, heap: Global, work: Work, status: u8) -> Result
     } else {
         work.pages
     };
-    let held = held_with(heap, work.log, status, "")?;
-    let expected = format!(in heap; "unread unread{failed} {pages}")?;
-    let at = format!(in heap; "{} 3{status:02X}", work.log)?;
-    held.check_block(rt, heap, expected.as_str(), at.as_str())?;
-    let busy = shown::work(heap, &held.bus)?;
+    let held = held_with(rt.alloc(), work.log, status, "")?;
+    let expected = format!(in rt.alloc(); "unread unread{failed} {pages}")?;
+    let at = format!(in rt.alloc(); "{} 3{status:02X}", work.log)?;
+    held.check_block(rt, expected.as_str(), at.as_str())?;
+    let busy = shown::work(rt.alloc(), &held.bus)?;
     let expected = if is_ready { work.ended } else { work.busy };
     assert_eq!(rt; busy.as_str(), expected, "{}", at);
     Ok(())
@@ -96,7 +95,7 @@ fn check_status(rt: &impl Abort, heap: Global, work: Work, status: u8) -> Result
 fn each_byte_as_a_status(rt: HostRuntime) -> Result<(), Fail> {
     for work in &WORKS {
         for status in 0..=255u8 {
-            check_status(&rt, rt.alloc(), *work, status)?;
+            check_status(&rt, *work, status)?;
         }
     }
     Ok(())

@@ -1,12 +1,9 @@
--- What the work on a block makes of its record: the same definitions as the bus reader's.
-use Rattle.flash.specs.Records.{stale, programmed, program_ended, erase_ended, mark_read}
+-- What the work on a block makes of its record.
+use Rattle.std.specs.Prelude.{◌≡◌}
+use Rattle.std.specs.Fn.{Once, FnOnceReturnsAtMut}
+use denote.Ref.{MutBor}
 use Rattle.flash.specs.declared.record.BlockRecord.{BlockRecord}
-use Rattle.record.specs.declared.change.Change.{Change}
-use Rattle.record.specs.declared.change.Change.TheVariants as change
 
-abbrev pub applied : Change → BlockRecord → BlockRecord
-applied change.PagesLost k = stale k
-applied (change.Programmed allowed page) k = programmed allowed page k
-applied (change.ProgramEnded v) k = program_ended v k
-applied (change.EraseEnded v) k = erase_ended v k
-applied (change.MarkRead page b) k = mark_read page b k
+-- what f leaves of a record is what g makes of it
+abbrev pub Makes : {F : Type 0} → Once F (MutBor BlockRecord × Unit {0}) (Unit {0} × (MutBor BlockRecord × Unit {0})) → F → (BlockRecord → BlockRecord) → Type 0
+Makes c f g = (k l : BlockRecord) → FnOnceReturnsAtMut c f k tt l → l ≡ g k

@@ -1,5 +1,6 @@
 -- The block that pick answers.
-use Rattle.std.specs.Prelude.{ℕ, zero, suc, ◌+◌, ◌-◌, Bool, false, cond, List, Some, None, Option, slice_index_or}
+use Rattle.std.specs.Prelude.{ℕ, ◌-◌, Bool, false, List, Option, slice_index_or}
+use Rattle.std.specs.List.{find, range_with_len}
 use Rattle.flash.specs.Records.{first_record, fit}
 use Rattle.flash.specs.declared.record.BlockRecord.{BlockRecord}
 use Rattle.flash.specs.declared.record.Pages.{Pages}
@@ -16,8 +17,7 @@ suitable k = suitable_with k.pages (fit k)
 
 -- the first suitable of n blocks from b on
 abbrev pub seek : List BlockRecord → ℕ → ℕ → Option ℕ
-seek ks b zero = None
-seek ks b (suc n) = cond (suitable (slice_index_or ks b first_record)) (Some b) (seek ks (b + 1) n)
+seek ks b n = find (λ k. suitable (slice_index_or ks k first_record)) (range_with_len b n)
 
 abbrev pub picked : List BlockRecord → ℕ → ℕ → Option ℕ
 picked ks blocks from = seek ks from (blocks - from)

@@ -1,6 +1,5 @@
 // The driver's record: what is known of each block, and whether work on it is allowed.
 #![tactic(auto)]
 
-pub mod change;
 pub mod judgement;
 pub mod record;

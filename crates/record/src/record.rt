@@ -1,13 +1,15 @@
 // A record for each block of the larger part.
-ghost use Rattle.std.specs.Prelude.{◌≡◌, ◌+◌, ◌-◌, replicate, Some, slice_index_or};
+ghost use Rattle.std.specs.Prelude.{◌≡◌, replicate, Some, slice_index_or};
 ghost use Rattle.bus.specs.Bus.{changed_at};
-ghost use Rattle.flash.specs.Records.{first_record};
-ghost use Rattle.record.specs.Changes.{applied};
+ghost use Rattle.flash.specs.Records.{first_record, stale, programmed, program_ended, erase_ended, mark_read};
+ghost use Rattle.flash.specs.declared.record.BlockRecord.{BlockRecord as TheRecord};
+ghost use Rattle.record.specs.Changes.{Makes};
 ghost use Rattle.record.specs.Picks.{suitable, picked};
 
-use crate::change::Change;
 use flash::geometry::MOST_BLOCKS;
+use flash::page::Page;
 use flash::record::{BlockRecord, Pages};
+use flash::status::Verdict;
 
 #[derive(Drop)]
 pub struct Record {
@@ -18,28 +20,7 @@ pub struct Record {
 fn is_suitable(block: &BlockRecord) -> bool
     ensures { result ≡ suitable block.now }
 {
-    match block.pages {
-        Pages::Blank => block.is_fit(),
-        _ => false,
-    }
-}
-
-fn known(blocks: &[BlockRecord], block: u16) -> BlockRecord
-    ensures { result ≡ slice_index_or blocks.now block first_record }
-{
-    if (block as usize) < blocks.len() {
-        return blocks[block as usize];
-    }
-    BlockRecord::FIRST
-}
-
-// The record of one block is lent to be changed, if the part has the block.
-fn change_one(known: &mut [BlockRecord], blocks: u16, block: u16, change: Change)
-    ensures { known.new ≡ changed_at blocks (Some block) (applied change) known.old }
-{
-    if block < blocks && (block as usize) < known.len() {
-        change.apply(&mut known[block as usize]);
-    }
+    block.pages == Pages::Blank && block.is_fit()
 }
 
 impl Record {
@@ -56,25 +37,67 @@ impl Record {
     pub fn block(&self, block: u16) -> BlockRecord
         ensures { result ≡ slice_index_or self.now.blocks block first_record }
     {
-        known(&self.blocks, block)
+        self.blocks
+            .get(usize::from(block))
+            .copied()
+            .unwrap_or(BlockRecord::FIRST)
     }
 
-    /// The record of one block is changed, if the part has the block, and no other.
-    pub fn change(&mut self, blocks: u16, block: u16, change: Change)
-        ensures { self.new.blocks ≡ changed_at blocks (Some block) (applied change) self.old.blocks }
+    // The record of one block is lent to `change`, if the part has the block, and no other is. A method
+    // that lends it to its caller has no proof yet where it stands in an array.
+    fn change<F: FnOnce(&mut BlockRecord)>(&mut self, blocks: u16, block: u16, change: F)
+        requires { F.IsAlwaysCallable change }
+        ensures { (g : TheRecord → TheRecord) → Makes F.FnOnce change g → self.new.blocks ≡ changed_at blocks (Some block) g self.old.blocks }
     {
-        change_one(&mut self.blocks, blocks, block, change);
+        let at = usize::from(block);
+        if block < blocks && at < self.blocks.len() {
+            change(&mut self.blocks[at]);
+        }
+    }
+
+    /// An erase of the block is confirmed, or work on it is cut off: nothing is known of its pages.
+    pub fn forget_pages(&mut self, blocks: u16, block: u16)
+        ensures { self.new.blocks ≡ changed_at blocks (Some block) stale self.old.blocks }
+    {
+        self.change(blocks, block, |known| known.forget_pages());
+    }
+
+    /// A program of the page is confirmed.
+    pub fn note_program(&mut self, blocks: u16, page: Page, allowed: u8)
+        ensures { self.new.blocks ≡ changed_at blocks (Some page.block) (programmed allowed page.page) self.old.blocks }
+    {
+        self.change(
+            blocks,
+            page.block,
+            |known| known.note_program(allowed, page.page),
+        );
+    }
+
+    /// A program in the block ended.
+    pub fn end_program(&mut self, blocks: u16, block: u16, verdict: Verdict)
+        ensures { self.new.blocks ≡ changed_at blocks (Some block) (program_ended verdict) self.old.blocks }
+    {
+        self.change(blocks, block, |known| known.end_program(verdict));
+    }
+
+    /// An erase of the block ended.
+    pub fn end_erase(&mut self, blocks: u16, block: u16, verdict: Verdict)
+        ensures { self.new.blocks ≡ changed_at blocks (Some block) (erase_ended verdict) self.old.blocks }
+    {
+        self.change(blocks, block, |known| known.end_erase(verdict));
+    }
+
+    /// The byte at the mark's column of the page was read.
+    pub fn note_mark(&mut self, blocks: u16, page: Page, byte: u8)
+        ensures { self.new.blocks ≡ changed_at blocks (Some page.block) (mark_read page.page byte) self.old.blocks }
+    {
+        self.change(blocks, page.block, |known| known.note_mark(page.page, byte));
     }
 
     /// The lowest block of the part at or above `from` that can take a first page.
     pub fn pick(&self, blocks: u16, from: u16) -> Option<u16>
         ensures { result ≡ picked self.now.blocks blocks from }
     {
-        for block in from..blocks {
-            if is_suitable(&self.block(block)) {
-                return Some(block);
-            }
-        }
-        None
+        (from..blocks).find(|block| is_suitable(&self.block(*block)))
     }
 }

@@ -30,7 +30,7 @@ use Rattle.driver.specs.Turns.{answered, not_offered, Turn, Where, view_at, adva
 use Rattle.driver.specs.Turns as turns
 use Rattle.driver.specs.Views.{View, block_page}
 use Rattle.driver.proofs.Holds.{some_none, fits}
-use Rattle.driver.proofs.Judges.{or_some}
+use Rattle.driver.proofs.Reasons.{of_reason, state_within, argument_within, record_within}
 use Rattle.runs.specs.Owners.{chips, full_reply, full_answer, NeverFull}
 
 -- ## What a call may need at the most
@@ -60,39 +60,8 @@ most_few o n (call.Record b) z h i = omega arith
 
 -- ## Faults of the other places
 
-state_other : (v : View) (c : Call) (f : Fault) → state_fault v.part v.standing c ≡ Some f → eqb (number_of f) 13 ≡ false
-state_other v c f e = grind (arith, nat_tests, e)
-
-argument_other : (o : Option Part) (c : Call) (z : ℕ) (f : Fault) → argument_fault o c z ≡ Some f → eqb (number_of f) 13 ≡ false
-argument_other o c z f e = grind (arith, nat_tests, e)
-
-unfit_other : (p : Page) (k : BlockRecord) (f : Fault) → unfit p k ≡ Some f → eqb (number_of f) 13 ≡ false
-unfit_other p k f e = grind (arith, nat_tests, e)
-
-unready_other : (p : Page) (chain : Bool) (n : ℕ) (ps : Pages) (f : Fault) → unready p chain n ps ≡ Some f → eqb (number_of f) 13 ≡ false
-unready_other p chain n ps f e = grind (arith, nat_tests, e)
-
-program_other : (o : Option Part) (ks : List BlockRecord) (p : Page) (chain : Bool) (f : Fault) → program_fault o ks p chain ≡ Some f → eqb (number_of f) 13 ≡ false
-program_other o ks p chain f e =
-    ⊎_elim (unfit_other p (get_or ks p.block first_record) f) (unready_other p chain (allowed_in o) (get_or ks p.block first_record).pages f)
-    (or_some (unfit p (get_or ks p.block first_record)) (unready p chain (allowed_in o) (get_or ks p.block first_record).pages) f e)
-
-record_other : (o : Option Part) (ks : List BlockRecord) (c : Call) (f : Fault) → record_fault o ks c ≡ Some f → eqb (number_of f) 13 ≡ false
-record_other o ks call.Identify f e = absurd (some_none (sym e))
-record_other o ks (call.Look p) f e = absurd (some_none (sym e))
-record_other o ks call.Close f e = absurd (some_none (sym e))
-record_other o ks (call.Read p c len) f e = absurd (some_none (sym e))
-record_other o ks (call.Erase b) f e = unfit_other (block_page b) (get_or ks b first_record) f e
-record_other o ks (call.Program p c) f e = program_other o ks p false f e
-record_other o ks (call.CacheFirst p c) f e = program_other o ks p false f e
-record_other o ks (call.CacheNext n g c) f e = program_other o ks (chain_page n g) true f e
-record_other o ks (call.CacheLast n g c) f e = program_other o ks (chain_page n g) true f e
-record_other o ks (call.Copy p q) f e = program_other o ks q false f e
-record_other o ks (call.Settle n) f e = absurd (some_none (sym e))
-record_other o ks (call.Abandon n) f e = absurd (some_none (sym e))
-record_other o ks call.Reset f e = absurd (some_none (sym e))
-record_other o ks (call.Pick b) f e = absurd (some_none (sym e))
-record_other o ks (call.Record b) f e = absurd (some_none (sym e))
+not_full_below : (f : Fault) → number_of f ≤ 12 → eqb (number_of f) 13 ≡ false
+not_full_below f l = grind (arith, l)
 
 room_enough : (room need : ℕ) (p : Option Page) → need ≤ room → port_fault room need p ≡ None
 room_enough room need p h = grind (arith, nat_tests, h)
@@ -167,9 +136,9 @@ module _ (v : View) (room : ℕ) (c : Call) (bs rs : List ℕ) (few : v.polls �
   not_full_by : (s a q d : Option Fault) → state_fault v.part v.standing c ≡ s → argument_fault v.part c (length bs) ≡ a → record_fault v.part v.blocks c ≡ q
       → port_fault room (most v.part v.polls c (length bs)) (page_named c) ≡ d
       → (full_reply (outcome_at (or_else s (or_else a (or_else q d))) v c rs).reply ≡ false) × (length (cycles_at (or_else s (or_else a (or_else q d))) v c bs rs) ≤ 5000)
-  not_full_by (Some f) a q d e i x y = (state_other v c f e, omega arith)
-  not_full_by None (Some f) q d e i x y = (argument_other v.part c (length bs) f i, omega arith)
-  not_full_by None None (Some f) d e i x y = (record_other v.part v.blocks c f x, omega arith)
+  not_full_by (Some f) a q d e i x y = (not_full_below f (omega (arith, (of_reason 1 4 (state_within v.part v.standing c) e).1)), omega arith)
+  not_full_by None (Some f) q d e i x y = (not_full_below f (omega (arith, (of_reason 5 7 (argument_within v.part c (length bs)) i).1)), omega arith)
+  not_full_by None None (Some f) d e i x y = (not_full_below f (of_reason 8 12 (record_within v.part v.blocks c) x).1, omega arith)
   not_full_by None None None (Some f) e i x y =
       let m = most_few v.part v.polls c (length bs) few (fits v.part c (length bs) i) in
       absurd (some_none (sym y ∙ room_enough room (most v.part v.polls c (length bs)) (page_named c) (omega arith)))

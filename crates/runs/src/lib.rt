@@ -15,6 +15,8 @@ use flash::record::BlockRecord;
 use port::tape::Tape;
 use std::alloc::Global;
 
+// What a run needs goes through to `run` as it is: a struct would only be made here and taken apart there.
+
 /// Runs a script on a tape over these places and replies, and gives the tape back: from its front it
 /// holds the cycles of all turns, in order.
 pub fn run_on_tape<'a>(

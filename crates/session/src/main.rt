@@ -4,54 +4,21 @@
 
 mod replies;
 
+use bus_log::line::Log;
 use calls::call::Call;
 use driver::run::run;
 use driver::script::Step;
-use flash::cycle::{Cycle, Kind};
+use flash::cycle::Cycle;
 use port::tape::Tape;
-use replies::Replies;
+use replies::read_replies;
 use std::alloc::{AllocError, Global};
 use std::io;
-use std::io::{BufWriter, Read, Write};
+use std::io::{BufReader, BufWriter, Write};
 
 const PLACES: usize = 64;
 
-const NOTHING: Cycle = Cycle {
-    kind: Kind::Command,
-    byte: 0,
-};
-
-// One piece of the input; whether more may follow.
-fn read_piece<R: Read>(replies: &mut Replies, input: &mut R) -> io::Result<bool> {
-    let mut buffer = [0u8; 4096];
-    let count = input.read(&mut buffer)?;
-    if count == 0 {
-        replies.read(b"\n")?;
-        return Ok(false);
-    }
-    replies.read(&buffer[0..count])?;
-    Ok(!replies.is_over())
-}
-
-fn read_replies<R: Read>(replies: &mut Replies, input: &mut R) -> io::Result<()> {
-    for _ in 0..u64::MAX {
-        if !read_piece(replies, input)? {
-            break;
-        }
-    }
-    Ok(())
-}
-
 fn print_cycles<W: Write + Drop>(mut out: W, cycles: &[Cycle]) -> io::Result<()> {
-    for cycle in cycles {
-        let kind = match cycle.kind {
-            Kind::Command => 0,
-            Kind::Address => 1,
-            Kind::DataIn => 2,
-            Kind::DataOut => 3,
-        };
-        writeln!(out, "{kind}{:02X}", cycle.byte)?;
-    }
+    write!(out, "{}", Log(cycles))?;
     out.flush()
 }
 
@@ -74,9 +41,9 @@ fn identify<'a>(
 }
 
 fn main(rt: HostRuntime) -> io::Result<()> {
-    let mut replies = Replies::new(rt.alloc());
-    read_replies(&mut replies, &mut rt.stdin())?;
-    let mut places = [NOTHING; PLACES];
-    let tape = identify(rt.alloc(), &mut places, replies.bytes())?;
+    let text = BufReader::new(rt.alloc(), rt.stdin())?;
+    let replies = read_replies(rt.alloc(), text)?;
+    let mut places = [Cycle::default(); PLACES];
+    let tape = identify(rt.alloc(), &mut places, replies.as_slice())?;
     print_cycles(BufWriter::new(rt.alloc(), rt.stdout())?, tape.written())
 }

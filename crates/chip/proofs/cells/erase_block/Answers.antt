@@ -1,13 +1,19 @@
-use Rattle.std.proofs.Common.{◌*◌, ap, ◌∙◌, arith}
-use Rattle.chip.specs.Cells.{altered, blanked}
-use Rattle.chip.proofs.Alterations.{blanked_none, blanked_more}
+use Rattle.std.proofs.Common.{◌≡◌, ◌-◌, ◌*◌, length, replicate, refl, ap, ◌∙◌, arith}
+use Rattle.std.proofs.lemmas.List.{get_or-replicate}
+use Rattle.std.proofs.lemmas.Bool.Decides.{nat_tests}
+use borrow.Rule.Slice.PartMut.{mid_len}
+use Rattle.chip.specs.Cells.{blanked}
+use Rattle.chip.proofs.Alterations.{altered_span}
 use Rattle.chip.proofs.cells.erase_block.Goals as goal
 
-pub loop-k-init : goal.loop-k-init
-loop-k-init c = blanked_none _ _
-
-pub loop-k-preserved : goal.loop-k-preserved
-loop-k-preserved c = c.blank_cell.ensures ∙ blanked_more _ c.loop-k.k _ _ c.loop-k.invariant
-
 pub returns : goal.returns
-returns c = c.loop-k.invariant ∙ ap (λ k. altered (blanked (135168 * c.args.block) k) 0 c.args.cells.now) (omega arith)
+returns c =
+    let base = 135168 * c.args.block in
+    let n = c.span-block.result.end - c.span-block.result.start in
+    let part = mid_len c.span-block.result.start c.span-block.result.end c.args.cells.now (omega (arith, c.span-block.ensures.end)) in
+    let long : length c.fill.new.self ≡ n = c.fill.ensures.len ∙ part in
+    let blank : c.fill.new.self ≡ replicate n 255 = c.fill.ensures.after (λ y e. e) ∙ ap (λ m. replicate m 255) part in
+    altered_span (blanked base 135168) base 135168 c.args.cells.now c.fill.new.self _ _ c.span-block.ensures.start c.span-block.ensures.end
+    (λ i x e. rw e refl)
+    long
+    (λ j h. grind (arith, nat_tests, get_or-replicate, blank, long, c.span-block.ensures.start, c.span-block.ensures.end))

@@ -1,16 +1,20 @@
-use Rattle.std.proofs.Common.{◌*◌, ap, ◌∙◌, arith}
-use Rattle.chip.specs.Cells.{altered, anded, row_programmed}
-use Rattle.chip.proofs.Alterations.{anded_none, anded_more}
+use Rattle.std.proofs.Common.{◌≡◌, ◌-◌, ◌*◌, length, refl, ap, ◌∙◌, arith}
+use Rattle.std.proofs.lemmas.List.{get_or-take, get_or-drop}
+use Rattle.std.proofs.lemmas.Bool.Decides.{nat_tests}
+use borrow.Rule.Slice.PartMut.{mid_len}
+use Rattle.chip.specs.Cells.{anded, row_programmed}
+use Rattle.chip.proofs.Alterations.{altered_span}
 use Rattle.chip.proofs.cells.program_row.Goals as goal
-
-pub loop-column-init : goal.loop-column-init
-loop-column-init c = anded_none _ _ _
-
-pub loop-column-preserved : goal.loop-column-preserved
-loop-column-preserved c = c.and_cell.ensures ∙ anded_more _ c.loop-column.column _ _ _ c.loop-column.invariant
 
 pub returns : goal.returns
 returns c =
-    c.loop-column.invariant
-    ∙ (ap (λ k. altered (anded (2112 * c.number.result) k c.args.page.now) 0 c.args.cells.now) (omega arith)
-    ∙ ap (λ n. row_programmed n c.args.page.now c.args.cells.now) c.number.ensures)
+    let base = 2112 * c.number.result in
+    let start = c.span-row.result.start in
+    let stop = c.span-row.result.end in
+    let part = mid_len start stop c.args.cells.now (omega (arith, c.span-row.ensures.end)) in
+    let long : length c.loop-column.cell-items ≡ stop - start = c.loop-column.auto.cell-items ∙ part in
+    altered_span (anded base 2112 c.args.page.now) base 2112 c.args.cells.now c.loop-column.cell-items _ _ c.span-row.ensures.start c.span-row.ensures.end
+    (λ i x e. rw e refl)
+    long
+    (λ j h. grind (arith, nat_tests, get_or-take, get_or-drop, c.loop-column.invariant.done, c.span-row.ensures.start, c.span-row.ensures.end, c.loop-column-test.false, part, long))
+    ∙ ap (λ n. row_programmed n c.args.page.now c.args.cells.now) c.number.ensures

@@ -1,21 +1,9 @@
-use Rattle.std.proofs.lemmas.Result.{err_from_is_err_and}
-use Rattle.commands.proofs.Runs.{ran_append, cut_here, cut_later}
+use Rattle.commands.proofs.Runs.{cut_here, cut_later, sent_after, passed_on}
 use Rattle.commands.proofs.copy.send_copy_program.Goals as goal
-
-pub returns-in_err-put_command : goal.returns-in_err-put_command
-returns-in_err-put_command g c =
-    let q = err_from_is_err_and c.from_residual.result c.from_residual.ensures.1 in
-    rw (q.1, q.2) (c.in_err-put_command.ensures.0, cut_here _ c.in_err-put_command.ensures.1)
 
 pub returns-in_err-put_address : goal.returns-in_err-put_address
 returns-in_err-put_address g c =
-    let q = err_from_is_err_and c.from_residual-in_err-put_address.result c.from_residual-in_err-put_address.ensures.1 in
-    rw (q.1, q.2) (c.in_err-put_address.ensures.0, cut_later c.in_ok-put_command.ensures (cut_here _ c.in_err-put_address.ensures.1))
-
-pub returns-in_err-put_command-2 : goal.returns-in_err-put_command-2
-returns-in_err-put_command-2 g c =
-    let q = err_from_is_err_and c.from_residual-in_err-put_command-2.result c.from_residual-in_err-put_command-2.ensures.1 in
-    rw (q.1, q.2) (c.in_err-put_command-2.ensures.0, cut_later c.in_ok-put_command.ensures (cut_later c.in_ok-put_address.ensures c.in_err-put_command-2.ensures.1))
+    passed_on c.from_residual-in_err-put_address.result _ _ _ c.from_residual-in_err-put_address.ensures.1 (c.in_err-put_address.ensures.0, cut_later c.in_ok-put_command.ensures (cut_here _ c.in_err-put_address.ensures.1))
 
 pub returns : goal.returns
-returns g c = ran_append c.in_ok-put_command.ensures (ran_append c.in_ok-put_address.ensures c.in_ok-put_command-2.ensures)
+returns g c = sent_after _ _ c.put_command-2.result c.in_ok-put_command.ensures (sent_after _ _ c.put_command-2.result c.in_ok-put_address.ensures c.put_command-2.ensures)

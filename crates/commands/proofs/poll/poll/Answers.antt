@@ -1,20 +1,17 @@
 use Rattle.std.proofs.Common.{map, sym, arith}
-use Rattle.std.proofs.lemmas.Result.{err_from_is_err_and}
 use Rattle.port.specs.Meanings.{gave}
 use Rattle.commands.specs.Polls.{taken}
-use Rattle.commands.proofs.Runs.{ran_step, stopped_here}
+use Rattle.commands.proofs.Runs.{ran_step, stopped_here, passed_on}
 use Rattle.commands.proofs.Waits.{waited_more, ready_now, timed_out_lem, ran_out}
 use Rattle.commands.proofs.poll.poll.Goals as goal
 
 pub returns-in_err-put_command : goal.returns-in_err-put_command
 returns-in_err-put_command g c =
-    let q = err_from_is_err_and c.from_residual.result c.from_residual.ensures.1 in
-    rw (q.1, q.2) (stopped_here (λ rs. map gave (taken c.args.polls rs)) c.in_err-put_command.ensures)
+    passed_on c.from_residual.result _ _ _ c.from_residual.ensures.1 (stopped_here (λ rs. map gave (taken c.args.polls rs)) c.in_err-put_command.ensures)
 
 pub returns-in_err-status : goal.returns-in_err-status
 returns-in_err-status g c =
-    let q = err_from_is_err_and c.from_residual-in_err-status.result c.from_residual-in_err-status.ensures.1 in
-    rw (q.1, q.2) (ran_out c.in_ok-put_command.ensures c.loop-turn.invariant c.args.page (omega arith) c.in_err-status.ensures.steps)
+    passed_on c.from_residual-in_err-status.result _ _ _ c.from_residual-in_err-status.ensures.1 (ran_out c.in_ok-put_command.ensures c.loop-turn.invariant c.args.page (omega arith) c.in_err-status.ensures.steps)
 
 pub returns-then-is_ready : goal.returns-then-is_ready
 returns-then-is_ready g c =

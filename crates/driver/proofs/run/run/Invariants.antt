@@ -4,4 +4,4 @@ use Rattle.driver.proofs.run.run.Given as goal
 
 abbrev pub invariant-loop-step : goal.invariant-loop-step
 invariant-loop-step g l =
-    Scripted g.P.Port l.initial.stage l.script l.step-index l.going (vec_items l.initial.answers) (vec_items l.answers) l.stage
+    Scripted g.P.Port l.initial.stage l.script l.step-index (vec_items l.initial.answers) (vec_items l.answers) l.stage

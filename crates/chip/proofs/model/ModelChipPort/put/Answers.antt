@@ -1,31 +1,25 @@
-use Rattle.std.proofs.Common.{◌≡◌, ◌≤◌, true, length, sym, ap, ◌∙◌, subst}
+use Rattle.std.proofs.Common.{sym, ap, ◌∙◌}
 use Rattle.bus.specs.Bus.{step}
 use Rattle.bus.specs.Readers.{meant}
-use Rattle.bus.specs.States.{blocks_in}
 use Rattle.port.specs.Meanings.{driven}
-use Rattle.chip.specs.Chips.{chip_step}
-use Rattle.chip.specs.Kept.{Kept}
-use Rattle.chip.specs.Models.{chip_of, has_room}
-use Rattle.chip.specs.Recalls.{GoesOn}
+use Rattle.chip.specs.Chips.{Chip, chip_step}
+use Rattle.chip.specs.States.{chip_in}
 use Rattle.chip.specs.declared.model.ModelChip.{ModelChip}
-use Rattle.chip.proofs.Owns.{put_own}
-use Rattle.chip.proofs.Ports.{chip_stepped, room_own}
+use Rattle.chip.proofs.Ports.{put_stays, chip_stepped}
 use Rattle.chip.proofs.model.ModelChipPort.put.Goals as goal
 
-pub returns : goal.returns
-returns c =
+pub invariant_of-self : goal.invariant_of-self
+invariant_of-self c =
     let k : ModelChip = c.args.self.now in
-    let l : ModelChip = c.step.new.self in
-    let room : has_room k ≡ true = sym c.has_room.ensures ∙ c.if-not-has_room.false in
-    let stepped : chip_of l ≡ chip_step k.statuses.now (chip_of k) c.cycle-kind.result = c.step.ensures.chip in
-    let ran : chip_of l ≡ chip_step k.statuses.now (chip_of k) (driven c.args.cycle) =
-    stepped ∙ ap (λ x. chip_step k.statuses.now (chip_of k) x) c.cycle-kind.ensures in
-    let means : blocks_in l.reader.bus.part ≤ length k.reader.blocks.now → meant l.reader ≡ step (meant k.reader) (driven c.args.cycle) =
-    λ h. c.step.ensures.means h ∙ ap (λ x. step (meant k.reader) x) c.cycle-kind.ensures in
-    let kept : Kept (chip_of k) (chip_of l) (driven c.args.cycle) = subst (λ x. Kept (chip_of k) (chip_of l) x) c.cycle-kind.ensures c.step.ensures.kept in
-    record {
-      steps = chip_stepped k l (driven c.args.cycle) k.statuses.now ran means c.step.ensures.part room
-          (put_own k.part k.reader.bus c.args.cycle (room_own k room));
-      runs = record { chip = ran; kept = kept; part = c.step.ensures.part; statuses = c.step.ensures.statuses };
-      goes_on = subst (λ x. GoesOn (chip_of k) (chip_of l) x) c.cycle-kind.ensures c.step.ensures.goes_on;
-    }
+    let ran = c.step.ensures.chip ∙ ap (λ x. chip_step k.statuses.now (chip_in k.state) x) c.into.ensures in
+    record { own = put_stays k.part k.statuses.now (chip_in k.state) (chip_in c.step.new.self) c.args.cycle ran k.own }
+
+pub returns-clause-steps : goal.returns-clause-steps
+unfolding chip_step
+returns-clause-steps c =
+    let k : ModelChip = c.args.self.now in
+    let ran = c.step.ensures.chip ∙ ap (λ x. chip_step k.statuses.now (chip_in k.state) x) c.into.ensures in
+    chip_stepped k.part k.state.reader c.step.new.self.reader (driven c.args.cycle) (ap (λ (x : Chip). x.reader) ran)
+    (λ h. c.step.ensures.means h ∙ ap (λ x. step (meant k.state.reader) x) c.into.ensures)
+    (put_stays k.part k.statuses.now (chip_in k.state) (chip_in c.step.new.self) c.args.cycle ran k.own)
+    (sym c.has_room.ensures ∙ c.if-not-has_room.false)

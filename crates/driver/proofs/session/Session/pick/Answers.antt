@@ -1,9 +1,5 @@
-use Rattle.std.proofs.Common.{ap, ◌∙◌}
-use Rattle.record.specs.Picks.{picked}
 use Rattle.driver.proofs.Calleds.{called_pick}
 use Rattle.driver.proofs.session.Session.pick.Goals as goal
 
 pub returns : goal.returns
-returns g c =
-    called_pick g.P.Port c.args.self.now c.args.from
-    (c.pick.ensures ∙ ap (λ n. picked c.args.self.now.record.blocks n c.args.from) c.blocks_in.ensures)
+returns g c = called_pick g.P.Port c.args.self.now c.args.from c.pick.ensures

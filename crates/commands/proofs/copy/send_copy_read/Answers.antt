@@ -1,4 +1,0 @@
-use Rattle.commands.proofs.copy.send_copy_read.Goals as goal
-
-pub returns : goal.returns
-returns g c = c.in_ok-open_page.ensures

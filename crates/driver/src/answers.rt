@@ -3,7 +3,6 @@ ghost use Rattle.std.specs.Prelude.{◌≡◌, MatchResult};
 ghost use Rattle.driver.specs.declared.script.Answer.TheVariants as answer;
 
 use crate::script::Answer;
-use crate::slip::Slip;
 use flash::fault::Fault;
 use flash::record::BlockRecord;
 
@@ -12,15 +11,6 @@ impl From<()> for Answer {
 
     fn from(_done: ()) -> Answer {
         Answer::Done
-    }
-}
-
-// The slip is spent: in a script it goes by its number.
-impl From<Slip> for Answer {
-    ghost from_gives = { λ s a. a ≡ answer.Slip s.number };
-
-    fn from(slip: Slip) -> Answer {
-        Answer::Slip(slip.spend())
     }
 }
 

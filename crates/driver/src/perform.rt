@@ -1,6 +1,6 @@
 // One call of a script, in which a slip goes by its number.
 ghost use Rattle.std.specs.Prelude.{◌≡◌, false, [], vec_len, vec_items};
-ghost use Rattle.driver.specs.Called.{chain_reply, read_reply};
+ghost use Rattle.driver.specs.Called.{slip_reply, chain_reply, read_reply};
 ghost use Rattle.driver.specs.Scripts.{answer_of, bytes_for, read_length, Turned};
 ghost use Rattle.driver.specs.Turns.{answered, surveying, driving, is_close};
 
@@ -14,12 +14,20 @@ use flash::fault::Fault;
 use flash::page::Page;
 use port::port::Port;
 
+// The slip is spent: in a script it goes by its number. No `From`, which every program could call: only
+// `quit` gives up a live slip.
+fn slip_answer(came: Result<Slip, Fault>) -> Answer
+    ensures { answer_of result ≡ answered (slip_reply came) }
+{
+    came.map(|slip| Answer::Slip(slip.spend())).into()
+}
+
 // A further page of a chain answers the slip's new number.
 fn chain_answer(came: Result<(), Fault>, slip: Slip) -> Answer
     ensures { answer_of result ≡ answered (chain_reply came slip.number) }
 {
     let number = slip.spend();
-    came.map(|()| Slip { number }).into()
+    came.map(|()| Answer::Slip(number)).into()
 }
 
 // A read answers what is in its buffer.
@@ -67,9 +75,11 @@ impl<P: Port> Driver<P> {
                 column,
                 length,
             } => self.read_all(page, column, length, buffer),
-            Call::Erase { block } => self.erase(block).into(),
-            Call::Program { page, column } => self.program(page, column, bytes).into(),
-            Call::CacheFirst { page, column } => self.cache_first(page, column, bytes).into(),
+            Call::Erase { block } => slip_answer(self.erase(block)),
+            Call::Program { page, column } => slip_answer(self.program(page, column, bytes)),
+            Call::CacheFirst { page, column } => {
+                slip_answer(self.cache_first(page, column, bytes))
+            }
             Call::CacheNext { slip, page, column } => {
                 let mut slip = Slip { number: slip };
                 let came = self.cache_next(&mut slip, page, column, bytes);
@@ -83,7 +93,7 @@ impl<P: Port> Driver<P> {
             Call::Copy {
                 source,
                 destination,
-            } => self.copy(source, destination).into(),
+            } => slip_answer(self.copy(source, destination)),
             Call::Settle { slip } => {
                 let mut slip = Slip { number: slip };
                 let came = self.settle(&mut slip);

@@ -17,6 +17,9 @@ use std::io::{BufReader, BufWriter, Write};
 
 const PLACES: usize = 64;
 
+// So much of the input is read at a time: what follows the replies may be for another program.
+const PIECE: usize = 4096;
+
 fn print_cycles<W: Write + Drop>(mut out: W, cycles: &[Cycle]) -> io::Result<()> {
     write!(out, "{}", Log(cycles))?;
     out.flush()
@@ -41,7 +44,7 @@ fn identify<'a>(
 }
 
 fn main(rt: HostRuntime) -> io::Result<()> {
-    let text = BufReader::new(rt.alloc(), rt.stdin())?;
+    let text = BufReader::with_capacity(rt.alloc(), PIECE, rt.stdin())?;
     let replies = read_replies(rt.alloc(), text)?;
     let mut places = [Cycle::default(); PLACES];
     let tape = identify(rt.alloc(), &mut places, replies.as_slice())?;

@@ -1,6 +1,9 @@
--- The line of a cycle reads back as the cycle, and its kind digit is text.
-use Rattle.std.proofs.Common.{◌≡◌, ℕ, ◌+◌, ◌*◌, ◌/◌, ◌%◌, ◌<◌, false, eqb, List, [], ◌∷◌, ◌++◌, Some, encode_utf8, refl, ap, ◌∙◌, arith}
+-- The line of a cycle reads back as the cycle, and it is text.
+use Rattle.std.proofs.Common.{◌≡◌, ℕ, ◌+◌, ◌*◌, ◌/◌, ◌%◌, ◌<◌, false, eqb, List, [], ◌∷◌, ◌++◌, Some, ap, ◌∙◌, arith}
 use Rattle.std.proofs.lemmas.Bool.Decides.{nat_tests}
+use Rattle.std.proofs.lemmas.Str.{IsUtf8-from_ascii}
+use Rattle.std.proofs.lemmas.Str.Ascii.{IsAscii-nil, IsAscii-cons}
+use Rattle.std.specs.Str.{IsUtf8}
 use Rattle.flash.specs.declared.cycle.Cycle.{Cycle}
 use Rattle.flash.specs.declared.cycle.Kind.{Kind}
 use Rattle.flash.specs.declared.cycle.Kind.TheVariants.{Command, Address, DataIn, DataOut}
@@ -28,10 +31,22 @@ reads_back c h n cs =
     digits_back c.kind (c.byte / 16) (c.byte % 16) (omega arith) (omega arith) n cs
     ∙ ap (λ b. next_line n (cs ++ record { kind = c.kind; byte = b } ∷ [])) (omega arith)
 
--- a kind digit as a character is one byte
-pub digit_text : (k : Kind) → encode_utf8 (digit_of k) ≡ digit_of k ∷ []
-unfolding lib.Utf8.encode
-digit_text Command = refl
-digit_text Address = refl
-digit_text DataIn = refl
-digit_text DataOut = refl
+kind_low : (k : Kind) → digit_of k < 128
+kind_low Command = omega arith
+kind_low Address = omega arith
+kind_low DataIn = omega arith
+kind_low DataOut = omega arith
+
+hex_low : (n : ℕ) → n < 16 → hex_digit n < 128
+hex_low n h = grind (arith, nat_tests)
+
+-- all of its bytes are below 128
+pub line_text : (c : Cycle) → c.byte < 256 → IsUtf8 (line_for c)
+line_text c h =
+    let high = hex_digit (c.byte / 16) in
+    let low = hex_digit (c.byte % 16) in
+    IsUtf8-from_ascii (line_for c)
+    (IsAscii-cons (digit_of c.kind) (high ∷ low ∷ 10 ∷ []) (kind_low c.kind)
+    (IsAscii-cons high (low ∷ 10 ∷ []) (hex_low (c.byte / 16) (omega arith))
+    (IsAscii-cons low (10 ∷ []) (hex_low (c.byte % 16) (omega arith))
+    (IsAscii-cons 10 [] (omega arith) IsAscii-nil))))

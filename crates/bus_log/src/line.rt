@@ -1,5 +1,6 @@
 // The lines of a log: read a byte at a time, and written.
 ghost use Rattle.std.specs.Prelude.{◌≡◌, ◌<◌, codes, Some};
+ghost use Rattle.std.specs.Str.{IsUtf8};
 ghost use Rattle.bus_log.specs.Hexes.{hex_digit};
 ghost use Rattle.bus_log.specs.Logs.{digit_of, line_for, log_text, ReadsBack};
 ghost use Rattle.bus_log.specs.Lines.{is_space, kind_of, hex_of, begin, first_digit, second_digit, feed, finish};
@@ -138,6 +139,7 @@ fn kind_digit(kind: Kind) -> u8
 pub fn line_for(cycle: Cycle) -> [u8; 4]
     ensures line { result ≡ line_for cycle }
     ensures back { ReadsBack cycle result }
+    ensures text { IsUtf8 result }
 {
     [
         kind_digit(cycle.kind),
@@ -156,9 +158,9 @@ impl fmt::Display for Log<'_> {
 
     fn fmt<W: fmt::Write>(&self, f: &mut fmt::Formatter<W>) -> fmt::Result {
         for cycle in self.0 {
-            let kind = char::from(kind_digit(cycle.kind));
-            let byte = cycle.byte;
-            writeln!(f, "{kind}{byte:02X}")?;
+            let line = line_for(*cycle);
+            // A line is text, as it promises: a test of it would take most of the time of a print.
+            f.write_str(unsafe { str::from_utf8_unchecked(&line) })?;
         }
         Ok(())
     }

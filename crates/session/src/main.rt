@@ -13,12 +13,9 @@ use port::tape::Tape;
 use replies::read_replies;
 use std::alloc::{AllocError, Global};
 use std::io;
-use std::io::{BufReader, BufWriter, Write};
+use std::io::{BufWriter, Write};
 
 const PLACES: usize = 64;
-
-// So much of the input is read at a time: what follows the replies may be for another program.
-const PIECE: usize = 4096;
 
 fn print_cycles<W: Write + Drop>(mut out: W, cycles: &[Cycle]) -> io::Result<()> {
     write!(out, "{}", Log(cycles))?;
@@ -44,8 +41,7 @@ fn identify<'a>(
 }
 
 fn main(rt: HostRuntime) -> io::Result<()> {
-    let text = BufReader::with_capacity(rt.alloc(), PIECE, rt.stdin())?;
-    let replies = read_replies(rt.alloc(), text)?;
+    let replies = read_replies(rt.alloc(), &mut rt.stdin())?;
     let mut places = [Cycle::default(); PLACES];
     let tape = identify(rt.alloc(), &mut places, replies.as_slice())?;
     print_cycles(BufWriter::new(rt.alloc(), rt.stdout())?, tape.written())

@@ -1,13 +1,13 @@
 // The bytes that the chip is to give, read from text: two hexadecimal digits a line.
 use bus_log::hex::byte_of;
-use std::alloc::Global;
+use std::alloc::{AllocError, Global};
 use std::io;
 use std::io::Read;
 
 const MOST: usize = 64;
 
-// What has been read of a line. Spaces, tabs and carriage returns around its digits do not count. Read byte
-// by byte and not by `split`: a line may be of any length, and the memory for it does not grow.
+// What has been read of a line. Spaces, tabs and carriage returns around its digits do not count. Not by
+// `split`: a line may be of any length, and the memory for it does not grow.
 #[derive(Clone, Copy)]
 enum Line {
     Blank,
@@ -25,27 +25,41 @@ impl Line {
             (Line::Reply(_) | Line::Bad, _) => Line::Bad,
         }
     }
+
+    // The line has ended: whether it adds a reply.
+    fn end(self, replies: &mut Vec<u8>) -> Result<bool, AllocError> {
+        match self {
+            Line::Reply(reply) if replies.len() < MOST => {
+                replies.push(reply)?;
+                Ok(true)
+            }
+            _ => Ok(false),
+        }
+    }
 }
 
 /// The replies in the text: at most 64, and none from the first line on that is not one. The text is read to
-/// the end of the first line that adds none.
-pub fn read_replies<R: Read + Drop>(heap: Global, text: R) -> io::Result<Vec<u8>> {
+/// the end of the first line that adds none, in pieces.
+pub fn read_replies<R: Read>(heap: Global, text: &mut R) -> io::Result<Vec<u8>> {
     let mut replies = Vec::new(heap);
     let mut line = Line::Blank;
-    for byte in text.bytes() {
-        line = match (line, byte?) {
-            (Line::Reply(reply), b'\n') if replies.len() < MOST => {
-                replies.push(reply)?;
-                Line::Blank
+    let mut piece = [0; 4096];
+    for _ in 0..u64::MAX {
+        let count = text.read(&mut piece)?;
+        if count == 0 {
+            break;
+        }
+        for byte in &piece[..count] {
+            if *byte != b'\n' {
+                line = line.feed(*byte);
+            } else if line.end(&mut replies)? {
+                line = Line::Blank;
+            } else {
+                return Ok(replies);
             }
-            (_, b'\n') => return Ok(replies),
-            (line, byte) => line.feed(byte),
-        };
+        }
     }
-    match line {
-        // The last line may lack its line feed.
-        Line::Reply(reply) if replies.len() < MOST => replies.push(reply)?,
-        _ => {}
-    }
+    // The last line may lack its line feed.
+    line.end(&mut replies)?;
     Ok(replies)
 }
